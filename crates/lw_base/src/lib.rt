@@ -1,0 +1,16 @@
+//! What every crate names: threads and reactors, messages and their tags, and the traits of the outside.
+#![tactic(auto)]
+
+mod memory;
+mod message;
+mod names;
+mod outside;
+mod tagged;
+#[cfg(test)]
+mod tests;
+
+pub use memory::{ListClock, MemSink, MemSource, OpenGate};
+pub use message::{Mark, Tag, What};
+pub use names::{Failed, NoMemory, ReactorId, ThreadId, Tick};
+pub use outside::{Clock, Gate, Sink, Source};
+pub use tagged::Tagged;

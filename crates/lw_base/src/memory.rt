@@ -1,0 +1,186 @@
+//! The outside in memory: for tests, and for callers that have the whole text.
+ghost use Rattle.std.specs.Prelude.{◌≡◌, ◌+◌, ◌<◌, ◌≤◌, ◌↔◌, [], ◌∷◌, ◌++◌, length, take, drop, min, Ok, Err, Some, IfOk, OnErr, IfSome, IsErr, Contains, vec_len, vec_capacity};
+ghost use Rattle.lw_base.specs.Outside.{Rose, Continues};
+ghost use Rattle.lw_base.specs.Memory.{fails_at, reading_at};
+
+use crate::names::{Failed, Tick};
+use crate::outside::{Clock, Gate, Sink, Source};
+use std::cmp;
+
+/// Bytes to read, at most `piece` of them a call.
+///
+/// The calls whose numbers, from 0, stand in `fails` fail. Once `calls` is the greatest u64 it stays so, and no call
+/// fails from then on.
+#[derive(Drop)]
+pub struct MemSource {
+    pub bytes: Vec<u8>,
+    /// How many of the bytes were read.
+    pub read: usize,
+    pub piece: usize,
+    pub fails: Vec<u64>,
+    pub calls: u64,
+    pub faults: u64,
+    pub ghost moves: { 1 ≤ piece },
+    pub ghost within: { read ≤ length bytes.items },
+}
+
+impl MemSource {
+    /// Before its first call, with no fault.
+    pub fn new(bytes: Vec<u8>, piece: usize, fails: Vec<u64>) -> Self
+        requires { 1 ≤ piece }
+        ensures bytes { result.bytes ≡ bytes }
+        ensures piece { result.piece ≡ piece }
+        ensures fails { result.fails ≡ fails }
+        ensures fresh { (result.calls ≡ 0) × (result.faults ≡ 0) × (result.read ≡ 0) }
+    {
+        MemSource {
+            bytes,
+            read: 0,
+            piece,
+            fails,
+            calls: 0,
+            faults: 0,
+        }
+    }
+}
+
+impl Source for MemSource {
+    ghost use Rattle.std.specs.Prelude.{drop, Some};
+
+    ghost left = { λ s. Some (drop s.read s.bytes.items) };
+
+    ghost faults = { λ s. s.faults };
+
+    fn read(&mut self, into: &mut [u8]) -> Result<usize, Failed> {
+        if fails_now(&mut self.calls, &self.fails) {
+            self.faults = self.faults.saturating_add(1);
+            return Err(Failed);
+        }
+        let rest = &self.bytes[self.read..];
+        let count = cmp::min(cmp::min(rest.len(), self.piece), into.len());
+        into[..count].copy_from_slice(&rest[..count]);
+        self.read += count;
+        Ok(count)
+    }
+}
+
+// Whether the call that begins now fails. It counts the call.
+fn fails_now(calls: &mut u64, fails: &[u64]) -> bool
+    ensures fails { result ≡ fails_at fails.now calls.old }
+    ensures counted { calls.new ≡ min (calls.old + 1) 18446744073709551615 }
+{
+    let call = *calls;
+    if call == u64::MAX {
+        return false;
+    }
+    *calls = call + 1;
+    fails.contains(&call)
+}
+
+/// What was written, at most `piece` bytes a call and no more than `bytes` has room for.
+///
+/// It takes no memory: a call that finds no room fails. The calls whose numbers, from 0, stand in `fails` fail too.
+/// Once `calls` is the greatest u64 it stays so, and `fails` makes no call fail from then on.
+#[derive(Drop)]
+pub struct MemSink {
+    pub bytes: Vec<u8>,
+    pub piece: usize,
+    pub fails: Vec<u64>,
+    pub calls: u64,
+    pub faults: u64,
+    pub ghost moves: { 1 ≤ piece },
+}
+
+impl MemSink {
+    /// Before its first call, with no fault.
+    pub fn new(bytes: Vec<u8>, piece: usize, fails: Vec<u64>) -> Self
+        requires { 1 ≤ piece }
+        ensures bytes { result.bytes ≡ bytes }
+        ensures piece { result.piece ≡ piece }
+        ensures fails { result.fails ≡ fails }
+        ensures fresh { (result.calls ≡ 0) × (result.faults ≡ 0) }
+    {
+        MemSink {
+            bytes,
+            piece,
+            fails,
+            calls: 0,
+            faults: 0,
+        }
+    }
+}
+
+impl Sink for MemSink {
+    ghost use Rattle.std.specs.Prelude.{Some};
+
+    ghost holds = { λ s. Some s.bytes.items };
+
+    ghost faults = { λ s. s.faults };
+
+    fn write(&mut self, piece: &[u8]) -> Result<usize, Failed> {
+        let fails = fails_now(&mut self.calls, &self.fails);
+        let room = self.bytes.capacity() - self.bytes.len();
+        let count = cmp::min(cmp::min(room, self.piece), piece.len());
+        if fails || count == 0 {
+            self.faults = self.faults.saturating_add(1);
+            return Err(Failed);
+        }
+        append(&mut self.bytes, &piece[..count]);
+        Ok(count)
+    }
+}
+
+// Appends bytes that there is room for.
+fn append(bytes: &mut Vec<u8>, piece: &[u8])
+    requires { vec_len bytes.old + length piece.now ≤ vec_capacity bytes.old }
+    ensures { bytes.new.items ≡ bytes.old.items ++ piece.now }
+{
+    if bytes.extend_from_slice(piece).is_err() {
+        unreachable!()
+    }
+}
+
+/// A clock that reads `list` from its front, then its last reading over and over, and 0 where the list is empty.
+///
+/// It tells its readings as long as `calls` is below the greatest u64, where `calls` stands still.
+#[derive(Drop)]
+pub struct ListClock {
+    pub list: Vec<u64>,
+    pub calls: u64,
+}
+
+impl ListClock {
+    pub fn new(list: Vec<u64>) -> Self
+        ensures { result ≡ record { list = list; calls = 0 } }
+    {
+        ListClock { list, calls: 0 }
+    }
+}
+
+impl Clock for ListClock {
+    ghost use Rattle.lw_base.specs.Memory.{list_readings};
+
+    ghost readings = { λ c. list_readings c.list.items c.calls };
+
+    fn now(&mut self) -> Tick {
+        let call = self.calls;
+        self.calls = call.saturating_add(1);
+        reading(self.list.as_slice(), call)
+    }
+}
+
+fn reading(list: &[u64], call: u64) -> u64
+    ensures { result ≡ reading_at list.now call }
+{
+    let last = list.len().saturating_sub(1) as u64;
+    let place = cmp::min(call, last) as usize;
+    list.get(place).copied().unwrap_or(0)
+}
+
+/// A gate that returns at once.
+#[derive(Copy, Clone)]
+pub struct OpenGate;
+
+impl Gate for OpenGate {
+    fn turn(&self, _reactor: u32, _turn: u64) {}
+}

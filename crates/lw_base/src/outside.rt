@@ -1,0 +1,68 @@
+//! The outside of a run: where bytes come from and go to, clocks, and a gate that a test can hold.
+ghost use Rattle.std.specs.Prelude.{◌≡◌, ◌+◌, ◌<◌, ◌≤◌, [], ◌∷◌, ◌++◌, length, take, drop, Some, IfOk, OnErr, IfSome};
+ghost use Rattle.lw_base.specs.Outside.{Rose, Continues};
+
+use crate::names::{Failed, Tick};
+
+/// Where bytes come from.
+pub trait Source {
+    ghost use Rattle.std.specs.Prelude.{ℕ, List, Option};
+
+    // What is left to read, where the source tells it.
+    ghost left: { Self → Option (List ℕ) };
+
+    // How often it has failed. The count stands still at the greatest u64.
+    ghost faults: { Self → ℕ };
+
+    /// Reads the next bytes into the front of `into`, and answers how many: 0 exactly at the end.
+    ///
+    /// A call that failed has read nothing.
+    fn read(&mut self, into: &mut [u8]) -> Result<usize, Failed>
+        requires { 0 < length into.old }
+        ensures count { IfOk result (λ n. n ≤ length into.new) }
+        ensures next { IfOk result (λ n. IfSome (left self.old) (λ was.
+            (take n into.new ≡ take n was) × (left self.new ≡ Some (drop n was)))) }
+        ensures end { IfOk result (λ n. n ≡ 0 → IfSome (left self.old) (λ was. was ≡ [])) }
+        ensures steady { faults self.old ≤ faults self.new }
+        ensures failed { OnErr result (Rose (faults self.old) (faults self.new) × (left self.new ≡ left self.old)) };
+}
+
+/// Where bytes go.
+pub trait Sink {
+    ghost use Rattle.std.specs.Prelude.{ℕ, List, Option};
+
+    // What it holds, where the sink tells it.
+    ghost holds: { Self → Option (List ℕ) };
+
+    // How often it has failed. The count stands still at the greatest u64.
+    ghost faults: { Self → ℕ };
+
+    /// Appends the first bytes of `piece`, and answers how many: at least 1.
+    ///
+    /// A call that failed has appended nothing.
+    fn write(&mut self, piece: &[u8]) -> Result<usize, Failed>
+        requires { 0 < length piece.now }
+        ensures count { IfOk result (λ n. (1 ≤ n) × (n ≤ length piece.now)) }
+        ensures appended { IfOk result (λ n. IfSome (holds self.old) (λ held.
+            holds self.new ≡ Some (held ++ take n piece.now))) }
+        ensures steady { faults self.old ≤ faults self.new }
+        ensures failed { OnErr result (Rose (faults self.old) (faults self.new) × (holds self.new ≡ holds self.old)) };
+}
+
+/// A clock of one reactor. It can't fail, and its readings may be any numbers.
+pub trait Clock {
+    ghost use Rattle.std.specs.Prelude.{ℕ, List, Option};
+
+    // Its readings so far, where the clock tells them.
+    ghost readings: { Self → Option (List ℕ) };
+
+    /// The next reading. A clock that tells its readings after the call told them before it.
+    fn now(&mut self) -> Tick
+        ensures { Continues (readings self.old) result (readings self.new) };
+}
+
+/// What a reactor calls before each of its turns. No clause says what it does: it may wait.
+pub trait Gate {
+    /// Reactor `reactor` is about to make its turn of this number, counted from 0.
+    fn turn(&self, reactor: u32, turn: u64);
+}
