@@ -3,3 +3,5 @@ pub mod ScriptShape
 pub mod ScriptText
 pub mod ReportText
 pub mod Printable
+pub mod Replay
+pub mod Served
