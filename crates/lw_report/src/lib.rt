@@ -1,0 +1,15 @@
+//! The record of a run and its text.
+//!
+//! `print` gives the text that the program writes. A record's type keeps that it has one.
+#![tactic(auto)]
+
+mod parts;
+mod printed;
+mod text;
+mod threads;
+
+pub use lw_model::{
+    Answer, Called, DeviceEnd, Did, Home, Hop, Order, Record, Replied, Reply, RoleKind, Round, Row,
+    Scheduler, Seen, SeenBy, Span, ThreadRecord,
+};
+pub use text::print;
