@@ -15,7 +15,7 @@ use Rattle.lw_model.specs.declared.step.Step.TheVariants as step
 use Rattle.lw_model.specs.OwnOrder.{at_of, put_in, in_order, steps_of, own_order}
 use Rattle.lw_model.proofs.Growth.{all-put_in, dids, calleds, rans}
 use Rattle.lw_model.specs.Holding.{is_given, is_sent, is_deferred, is_closed, gains, loses, says, is_putself, always, ordinal_given, references, pending, held, submitted}
-use Rattle.lw_model.specs.Lawful.{unanswered}
+use Rattle.lw_model.specs.Answers.{unanswered}
 
 abbrev pub is_line : Step → Bool
 is_line (step.Did i x) = true

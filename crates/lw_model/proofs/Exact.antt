@@ -11,7 +11,9 @@ use Rattle.lw_model.specs.declared.step.Step.TheVariants as step
 use Rattle.lw_model.specs.OwnOrder.{with_past, history}
 use Rattle.lw_model.specs.Same.{is_same_reply, is_same_seen}
 use Rattle.lw_model.specs.Lines.{thread_line, hop_line, ran_line, did_line, called_line, reply_line, seen_line}
-use Rattle.lw_model.specs.Lawful.{HomesAndHops, Numbers, Answers, Replies, VisitsSeen, BuffersHome, home_of, hops_of, hop_fits, number_fits, wanted, at_fits, did_ats, called_ats, ats_fit, did_fits, step_fits, owed, replied_ops, replies_of, seen_by, seen_of}
+use Rattle.lw_model.specs.Moves.{HomesAndHops, Numbers, home_of, hops_of, hop_fits, number_fits}
+use Rattle.lw_model.specs.Answers.{Answers, wanted, at_fits, did_ats, called_ats, ats_fit, did_fits, step_fits}
+use Rattle.lw_model.specs.Lawful.{Replies, VisitsSeen, BuffersHome, owed, replied_ops, replies_of, seen_by, seen_of}
 use Rattle.lw_model.specs.Verdict.{Test, each_line, against, homes_and_hops, numbers, step_test, answers, replies, visits_seen, buffers_home}
 use Rattle.lw_model.proofs.Passing.{passes, Decides-each_thread, Decides-each_client, passes-each_line, Decides-against, list_all-flat_map}
 use Rattle.lw_model.proofs.Sameness.{Tells-reply, Tells-seen}

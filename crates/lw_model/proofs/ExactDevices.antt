@@ -10,7 +10,7 @@ use Rattle.lw_model.specs.OwnOrder.{own_order_of, history}
 use Rattle.lw_model.specs.Holding.{says}
 use Rattle.lw_model.specs.Lines.{device_line}
 use Rattle.lw_model.specs.Same.{is_same_numbers, is_same_pair}
-use Rattle.lw_model.specs.Lawful.{DeviceHolds, Devices, device_at, over_steps, ordinal_on, began_on, called_on, callback_fits, refusal_fits, is_refusal}
+use Rattle.lw_model.specs.Devices.{DeviceHolds, Devices, device_at, over_steps, ordinal_on, began_on, called_on, callback_fits, refusal_fits, is_refusal}
 use Rattle.lw_model.specs.Verdict.{Test, each_thread, each_client, is_numbering, app_refuses_none, device_tests, devices}
 use Rattle.lw_model.proofs.Passing.{passes, list_all-flat_map, all_in_range, Decides-each_thread, Decides-each_client}
 use Rattle.lw_model.proofs.Sameness.{Tells-pair}

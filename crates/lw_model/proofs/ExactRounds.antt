@@ -10,7 +10,7 @@ use Rattle.lw_model.specs.OwnOrder.{with_past}
 use Rattle.lw_model.specs.Plan.{plan, standard}
 use Rattle.lw_model.specs.Lines.{round_line, round_size}
 use Rattle.lw_model.specs.Same.{is_same_order}
-use Rattle.lw_model.specs.Lawful.{RoundsHold, RoundsAndOrders, round_fits, row_fits, time_before}
+use Rattle.lw_model.specs.Rounds.{RoundsHold, RoundsAndOrders, round_fits, row_fits, time_before}
 use Rattle.lw_model.specs.Verdict.{Test, each_line, against, round_tests, clock_tests, rounds_and_orders}
 use Rattle.lw_model.proofs.Passing.{passes, list_all-flat_map}
 use Rattle.lw_model.proofs.Sameness.{Tells-order}

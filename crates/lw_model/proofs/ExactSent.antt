@@ -14,7 +14,8 @@ use Rattle.lw_model.specs.OwnOrder.{own_order, own_order_of, with_past}
 use Rattle.lw_model.specs.Sent.{sent, sent_by, sent_last, run_of, tokens, must_run}
 use Rattle.lw_model.specs.Lines.{thread_line, ran_line}
 use Rattle.lw_model.specs.Same.{both, is_same_what}
-use Rattle.lw_model.specs.Lawful.{Numbers, RanIsSent, number_fits, has_run, is_first_run}
+use Rattle.lw_model.specs.Moves.{Numbers, number_fits}
+use Rattle.lw_model.specs.Lawful.{RanIsSent, has_run, is_first_run}
 use Rattle.lw_model.specs.Verdict.{Test, each_line, is_sent_to, lacks_none, ran_is_sent}
 use Rattle.lw_model.proofs.Passing.{passes, passes-each_line, list_all-flat_map, all_in_range}
 use Rattle.lw_model.proofs.Printed.{parts}

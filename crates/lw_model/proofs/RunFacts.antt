@@ -8,7 +8,8 @@ use Rattle.lw_model.specs.declared.record.Record.{Record}
 use Rattle.lw_model.specs.Threads.{thread_count}
 use Rattle.lw_model.specs.OwnOrder.{with_past}
 use Rattle.lw_model.specs.Sent.{first_runner}
-use Rattle.lw_model.specs.Lawful.{number_fits, has_run}
+use Rattle.lw_model.specs.Moves.{number_fits}
+use Rattle.lw_model.specs.Lawful.{has_run}
 use Rattle.lw_model.proofs.ExactSent.{from, from-cons}
 
 abbrev of_sender : ℕ → List Tag → List Tag

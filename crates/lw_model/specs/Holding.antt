@@ -9,22 +9,27 @@ use Rattle.lw_model.specs.declared.record.Answer.TheVariants as answer
 use Rattle.lw_model.specs.declared.step.Step.{Step}
 use Rattle.lw_model.specs.declared.step.Step.TheVariants as step
 
+-- a get that made the channel
 abbrev pub is_given : Answer → Bool
 is_given (answer.Given n) = true
 is_given _ = false
 
+-- a request that went to the owner
 abbrev pub is_sent : Answer → Bool
 is_sent answer.Sent = true
 is_sent _ = false
 
+-- a put that gave the last reference back
 abbrev pub is_deferred : Answer → Bool
 is_deferred answer.Deferred = true
 is_deferred _ = false
 
+-- a client's last line
 abbrev pub is_closed : Answer → Bool
 is_closed answer.Closed = true
 is_closed _ = false
 
+-- a visit or a cast that set out
 abbrev pub is_started : Answer → Bool
 is_started answer.Started = true
 is_started _ = false
@@ -35,6 +40,7 @@ gains (answer.Given n) = true
 gains (answer.Again n) = true
 gains _ = false
 
+-- a reference less
 abbrev pub loses : Answer → Bool
 loses answer.Counted = true
 loses answer.Deferred = true
@@ -46,6 +52,7 @@ says on passes (step.Did i x) = on x.op && passes x.answer
 says on passes (step.Called i x) = false
 says on passes (step.Ran i m) = false
 
+-- any op
 abbrev pub always : ℕ → Bool
 always k = true
 
@@ -55,6 +62,7 @@ runs passes (step.Did i x) = false
 runs passes (step.Called i x) = false
 runs passes (step.Ran i m) = passes m.what
 
+-- a client's message to itself behind the last put of device d
 abbrev pub is_putself : ℕ → What → Bool
 is_putself d (what.PutSelf e) = e == d
 is_putself d _ = false
@@ -76,6 +84,7 @@ pending on d (s ∷ past) = pending on d past + cond (defers on past s) 1 0 - co
 abbrev pub destroys : (ℕ → Bool) → ℕ → List Step → Step → Bool
 destroys on d past s = runs (is_putself d) s && pending on d past == 1 && references on past == 0
 
+-- the ordinal of the channel that a step makes
 abbrev pub ordinal_given : (ℕ → Bool) → Step → Option ℕ
 ordinal_given on (step.Did i x) = elim x.answer [ answer.Given n ↦ cond (on x.op) (Some n) None | _ ↦ None ]
 ordinal_given on _ = None

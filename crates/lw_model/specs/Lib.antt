@@ -11,6 +11,10 @@ pub mod Holding
 pub mod Sent
 pub mod Journal
 pub mod Plan
+pub mod Moves
+pub mod Answers
+pub mod Devices
+pub mod Rounds
 pub mod Lawful
 pub mod Same
 pub mod Lines

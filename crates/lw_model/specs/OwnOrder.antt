@@ -29,9 +29,11 @@ steps_of t = map (λ p. step.Did p.0 p.1) (enumerate_from 0 t.did)
     ++ map (λ p. step.Called p.0 p.1) (enumerate_from 0 t.called)
     ++ map (λ p. step.Ran p.0 p.1) (enumerate_from 0 t.ran)
 
+-- what a thread did, in own order
 abbrev pub own_order : ThreadRecord → List Step
 own_order t = in_order (steps_of t)
 
+-- the own order of thread t; empty where there is no such thread
 abbrev pub own_order_of : Record → ℕ → List Step
 own_order_of r t = of_thread own_order r t
 

@@ -32,34 +32,43 @@ what_code what.Stop = 8 ∷ []
 what_code (what.Arrive n t) = 9 ∷ n ∷ t ∷ []
 what_code (what.Order n t c) = 10 ∷ n ∷ t ∷ c ∷ []
 
+-- of lists of numbers
 abbrev pub is_same_numbers : List ℕ → List ℕ → Bool
 is_same_numbers = pointwise ◌==◌
 
+-- of what messages are for
 abbrev pub is_same_what : What → What → Bool
 is_same_what v w = is_same_numbers (what_code v) (what_code w)
 
+-- of answers of replies
 abbrev pub is_same_replied : Replied → Replied → Bool
 is_same_replied replied.Ok replied.Ok = true
 is_same_replied (replied.Bytes xs) (replied.Bytes ys) = is_same_numbers xs ys
 is_same_replied (replied.Writes m) (replied.Writes n) = m == n
 is_same_replied _ _ = false
 
+-- of `reply` lines
 abbrev pub is_same_reply : Reply → Reply → Bool
 is_same_reply x y = x.op == y.op && is_same_replied x.answer y.answer
 
+-- of results of a visit
 abbrev pub is_same_mark : Mark → Mark → Bool
 is_same_mark x y = x.thread == y.thread && x.submitted == y.submitted
 
+-- of results of a visit or a cast
 abbrev pub is_same_results : SeenBy → SeenBy → Bool
 is_same_results (by.Visit xs) (by.Visit ys) = pointwise is_same_mark xs ys
 is_same_results (by.Cast xs) (by.Cast ys) = is_same_numbers xs ys
 is_same_results _ _ = false
 
+-- of `seen` lines
 abbrev pub is_same_seen : Seen → Seen → Bool
 is_same_seen x y = x.op == y.op && is_same_results x.results y.results
 
+-- of orders
 abbrev pub is_same_order : Order → Order → Bool
 is_same_order x y = x.thread == y.thread && x.to == y.to
 
+-- of pairs of numbers
 abbrev pub is_same_pair : (ℕ × ℕ) → (ℕ × ℕ) → Bool
 is_same_pair x y = x.0 == y.0 && x.1 == y.1

@@ -22,6 +22,7 @@ token_of_op t k (op.Visit d) = Some (what.Visit t k d)
 token_of_op t k op.Each = Some (what.Cast t k)
 token_of_op t k _ = None
 
+-- the token that the op k of thread t starts
 abbrev pub token_of : Script → ℕ → ℕ → Option What
 token_of s t k = elim (op_at s t k) [ None ↦ None | Some o ↦ token_of_op t k o ]
 
@@ -35,6 +36,7 @@ is_same_token _ _ = false
 abbrev pub runners : Record → What → List ℕ
 runners r w = filter (λ t. list_any (λ m. is_same_token w m.what) (ran_of r t)) (threads r.script)
 
+-- the first thread that ran a token, among those that pass
 abbrev pub first_runner : Record → What → (ℕ → Bool) → Option ℕ
 first_runner r w passes = slice_get (filter passes (runners r w)) 0
 
@@ -75,6 +77,7 @@ sent_by_ran r t m = elim m.what [
   | _ ↦ []
 ]
 
+-- what a step of thread t sends: each message with its receiver
 abbrev pub sent_by : Record → ℕ → List Step → Step → List (ℕ × What)
 sent_by r t past (step.Did i x) = cond (is_client r.script t) (sent_by_did r t past x) []
 sent_by r t past (step.Called i x) = []
@@ -101,6 +104,7 @@ abbrev pub tokens_started_by : Record → ℕ → Step → List What
 tokens_started_by r t (step.Did i x) = elim x.answer [ answer.Started ↦ option_to_list (token_of r.script t x.op) | _ ↦ [] ]
 tokens_started_by r t _ = []
 
+-- the tokens that were started, by client and then in own order
 abbrev pub tokens : Record → List What
 tokens r = flat_map (λ t. flat_map (λ p. tokens_started_by r t p.1) (history r t)) (clients r.script)
 
@@ -110,5 +114,6 @@ is_origin (what.Visit origin k d) t = t == origin
 is_origin (what.Cast origin k) t = t == origin
 is_origin _ t = false
 
+-- the app, the owners and its origin run each token that was started
 abbrev pub must_run : Script → What → ℕ → Bool
 must_run s w t = t == 0 || is_owner s t || is_origin w t

@@ -1,5 +1,5 @@
 -- Threads by their number: the app is 0, the clients follow in script order, and the owners of the images in image order.
-use Rattle.std.specs.Prelude.{ℕ, zero, suc, ◌+◌, ◌==◌, Bool, true, false, ◌&&◌, nat_lt, nat_le, List, [], length, Option, Some, None, unwrap_or, option_map, option_and_then, slice_get}
+use Rattle.std.specs.Prelude.{ℕ, zero, suc, ◌+◌, ◌==◌, Bool, true, false, ◌&&◌, nat_lt, nat_le, List, [], length, ◌<◌, IsTrue, Option, Some, None, unwrap_or, option_map, option_and_then, slice_get}
 use Rattle.std.specs.List.{range_with_len}
 use Rattle.lw_model.specs.declared.script.Script.{Script}
 use Rattle.lw_model.specs.declared.script.Op.{Op}
@@ -9,15 +9,19 @@ use Rattle.lw_model.specs.declared.record.Record.{Record}
 use Rattle.lw_model.specs.declared.record.ThreadRecord.{ThreadRecord}
 use Rattle.lw_model.specs.declared.record.Did.{Did}
 
+-- the app, the clients and the owners
 abbrev pub thread_count : Script → ℕ
 thread_count s = 1 + length s.clients + length s.images
 
+-- the owner of image d
 abbrev pub owner_of : Script → ℕ → ℕ
 owner_of s d = 1 + length s.clients + d
 
+-- thread t is a client
 abbrev pub is_client : Script → ℕ → Bool
 is_client s t = nat_lt 0 t && nat_le t (length s.clients)
 
+-- thread t is an owner
 abbrev pub is_owner : Script → ℕ → Bool
 is_owner s t = nat_lt (length s.clients) t
 
@@ -36,10 +40,12 @@ abbrev pub ops_of : Script → ℕ → List Op
 ops_of s zero = []
 ops_of s (suc c) = unwrap_or (option_map (λ x. x.ops) (slice_get s.clients c)) []
 
+-- how many requests of a client may be unanswered at once
 abbrev pub depth_of : Script → ℕ → ℕ
 depth_of s zero = 0
 depth_of s (suc c) = unwrap_or (option_map (λ x. x.depth) (slice_get s.clients c)) 0
 
+-- the op with number k of a thread
 abbrev pub op_at : Script → ℕ → ℕ → Option Op
 op_at s t k = slice_get (ops_of s t) k
 
@@ -56,8 +62,18 @@ is_on s t d k = elim (image_at s t k) [ None ↦ false | Some e ↦ e == d ]
 abbrev pub of_thread : {X : Type 0} → (ThreadRecord → List X) → Record → ℕ → List X
 of_thread f r t = unwrap_or (option_map f (slice_get r.threads t)) []
 
+-- the messages that a thread ran
 abbrev pub ran_of : Record → ℕ → List Tag
 ran_of r t = of_thread (λ x. x.ran) r t
 
+-- the `did` lines of a thread
 abbrev pub did_of : Record → ℕ → List Did
 did_of r t = of_thread (λ x. x.did) r t
+
+-- what holds of each thread of the script
+abbrev pub EachThread : Record → (ℕ → Type 0) → Type 0
+EachThread r P = (t : ℕ) → t < thread_count r.script → P t
+
+-- what holds of each client
+abbrev pub EachClient : Record → (ℕ → Type 0) → Type 0
+EachClient r P = (t : ℕ) → IsTrue (is_client r.script t) → P t

@@ -16,7 +16,11 @@ use Rattle.lw_model.specs.Sent.{sent, run_of, tokens, must_run}
 use Rattle.lw_model.specs.Plan.{plan, standard}
 use Rattle.lw_model.specs.Lines.{thread_line, hop_line, ran_line, did_line, called_line, reply_line, seen_line, device_line, clock_line, round_line, round_size, home_line}
 use Rattle.lw_model.specs.Same.{both, is_same_what, is_same_reply, is_same_seen, is_same_order, is_same_pair, is_same_numbers}
-use Rattle.lw_model.specs.Lawful.{home_of, hops_of, hop_fits, number_fits, did_fits, wanted, at_fits, did_ats, called_ats, has_run, is_first_run, replied_ops, replies_of, owed, device_at, over_steps, ordinal_on, began_on, called_on, callback_fits, refusal_fits, is_refusal, seen_by, seen_of, round_fits, row_fits, time_before}
+use Rattle.lw_model.specs.Moves.{home_of, hops_of, hop_fits, number_fits}
+use Rattle.lw_model.specs.Answers.{did_fits, wanted, at_fits, did_ats, called_ats}
+use Rattle.lw_model.specs.Lawful.{has_run, is_first_run, replied_ops, replies_of, owed, seen_by, seen_of}
+use Rattle.lw_model.specs.Devices.{device_at, over_steps, ordinal_on, began_on, called_on, callback_fits, refusal_fits, is_refusal}
+use Rattle.lw_model.specs.Rounds.{round_fits, row_fits, time_before}
 
 -- a line, and whether the rule holds there
 abbrev pub Test : Type 0
@@ -33,22 +37,28 @@ against same last line (w ∷ wanted) [] = (last, false) ∷ []
 against same last line [] (x ∷ found) = (line, false) ∷ against same last (line + 1) [] found
 against same last line (w ∷ wanted) (x ∷ found) = (line, both same w (Some x)) ∷ against same last (line + 1) wanted found
 
+-- the tests of all threads
 abbrev pub each_thread : Record → (ℕ → List Test) → List Test
 each_thread r tests = flat_map tests (threads r.script)
 
+-- the tests of all clients
 abbrev pub each_client : Record → (ℕ → List Test) → List Test
 each_client r tests = flat_map tests (clients r.script)
 
+-- Homes and hops, by `thread` and `hop` lines
 abbrev pub homes_and_hops : Record → List Test
 homes_and_hops r = each_thread r (λ t. (thread_line r t, home_of r t == t % r.reactors) ∷ each_line (hop_line r t) (hop_fits r t) (hops_of r t))
 
+-- Numbers, by `ran` lines
 abbrev pub numbers : Record → List Test
 numbers r = each_thread r (λ t. each_line (ran_line r t) number_fits (ran_of r t))
 
+-- a `did` line of thread t is tested where it stands in own order
 abbrev pub step_test : Record → ℕ → List Step → Step → List Test
 step_test r t past (step.Did i x) = (did_line r t i, did_fits r t past i x) ∷ []
 step_test r t past _ = []
 
+-- Answers, by `did` and `called` lines; a lack fails at the `thread` line
 abbrev pub answers : Record → List Test
 answers r = each_thread r (λ t. (thread_line r t, nat_le (wanted r t) (length (did_of r t)))
     ∷ (each_line (did_line r t) (at_fits (length (ran_of r t))) (did_ats r t)
@@ -59,13 +69,16 @@ answers r = each_thread r (λ t. (thread_line r t, nat_le (wanted r t) (length (
 abbrev pub is_sent_to : Record → ℕ → Tag → Bool
 is_sent_to r t m = both is_same_what (slice_get (sent r m.sender t) m.number) (Some m.what)
 
+-- thread t ran all that was sent to it, and each token that it must run
 abbrev pub lacks_none : Record → ℕ → Bool
 lacks_none r t = list_all (λ s. nat_le (length (sent r s t)) (length (run_of r s t))) (threads r.script)
     && list_all (λ w. not (must_run r.script w t) || has_run r w t) (tokens r)
 
+-- Ran is sent, by `ran` lines; a lack fails at the `thread` line
 abbrev pub ran_is_sent : Record → List Test
 ran_is_sent r = each_thread r (λ t. (thread_line r t, lacks_none r t) ∷ each_line (ran_line r t) (λ past m. is_sent_to r t m && is_first_run past m) (ran_of r t))
 
+-- Replies, by `reply` lines; a lack fails at the `thread` line
 abbrev pub replies : Record → List Test
 replies r = each_client r (λ t. against is_same_reply (thread_line r t) (reply_line r t 0) (map (owed r t) (replied_ops r t)) (replies_of r t))
 
@@ -73,9 +86,11 @@ replies r = each_client r (λ t. against is_same_reply (thread_line r t) (reply_
 abbrev pub is_numbering : List ℕ → Bool
 is_numbering ns = list_all (λ n. count_by (λ m. m == n) ns == 1) (range_with_len 0 (length ns))
 
+-- where the app unregistered device d, client t has no line that tells of a shut device
 abbrev pub app_refuses_none : Record → ℕ → ℕ → Bool
 app_refuses_none r d t = not ((device_at r d).thread == 0) || not (list_any (says (is_on r.script t d) is_refusal) (own_order_of r t))
 
+-- the tests of device d, all at its line
 abbrev pub device_tests : Record → ℕ → ℕ → List Test
 device_tests r d line =
     (line, length (over_steps r (ordinal_on r d)) == (device_at r d).given)
@@ -87,28 +102,35 @@ device_tests r d line =
     ++ each_thread r (λ t. (line, list_all (λ p. refusal_fits r d t p.0 p.1) (history r t)) ∷ [])
     ++ each_client r (λ t. (line, app_refuses_none r d t) ∷ []))
 
+-- Devices, by `device` lines
 abbrev pub devices : Record → List Test
 devices r = flat_map (λ d. device_tests r d (device_line r d)) (images r.script)
 
+-- Visits seen, by `seen` lines; a lack fails at the `thread` line
 abbrev pub visits_seen : Record → List Test
 visits_seen r = each_client r (λ t. against is_same_seen (thread_line r t) (seen_line r t 0) (map (λ x. Some x) (filter_map (seen_by r t) (ran_of r t))) (seen_of r t))
 
+-- the tests of a round whose line is `line`; a missing order fails at the line after the round
 abbrev pub round_tests : Record → Span → ℕ → List Round → Round → List Test
 round_tests r span line past x = (line, round_fits r.period span past x)
     ∷ (each_line (λ i. line + 1 + i) (row_fits r) x.rows
     ++ against is_same_order (line + round_size x) (line + 1 + length x.rows) (map (λ o. Some o) (plan standard r.reactors x.rows)) x.orders)
 
+-- the tests of a dynamic run; a round that is overdue fails at the `home` line
 abbrev pub clock_tests : Record → Span → List Test
 clock_tests r span = (clock_line r, nat_le span.first span.last)
     ∷ (home_line r, not (nat_lt (length r.rounds) 10000) || nat_lt span.last (time_before span.first (reverse r.rounds) + r.period))
     ∷ flat_map (λ p. round_tests r span (round_line r p.0) p.1.0 p.1.1) (enumerate_from 0 (with_past [] r.rounds))
 
+-- Rounds and orders; a static run has none
 abbrev pub rounds_and_orders : Record → List Test
 rounds_and_orders r = elim r.span [ None ↦ [] | Some span ↦ clock_tests r span ]
 
+-- Buffers home, by the `home` line
 abbrev pub buffers_home : Record → List Test
 buffers_home r = (home_line r, r.home.small == r.script.small && r.home.large == r.script.large) ∷ []
 
+-- the nine rules, in order
 abbrev pub rules : List (Record → List Test)
 rules = homes_and_hops ∷ numbers ∷ answers ∷ ran_is_sent ∷ replies ∷ devices ∷ visits_seen ∷ rounds_and_orders ∷ buffers_home ∷ []
 
@@ -122,6 +144,7 @@ abbrev pub first_failing : ℕ → List (Record → List Test) → Record → Op
 first_failing n [] r = None
 first_failing n (rule ∷ rest) r = elim (least_failing (rule r)) [ Some l ↦ Some (n, l) | None ↦ first_failing (n + 1) rest r ]
 
+-- the first rule that fails and its first line, or none
 abbrev pub verdict : Record → Option (ℕ × ℕ)
 verdict r = first_failing 1 rules r
 
@@ -141,5 +164,6 @@ abbrev pub FailsFirst : ℕ → List (Record → List Test) → Record → ℕ �
 FailsFirst n [] r clause line = ⊥
 FailsFirst n (rule ∷ rest) r clause line = ((clause ≡ n) × IsLeast (failing (rule r)) line) ⊎ ((failing (rule r) ≡ []) × FailsFirst (n + 1) rest r clause line)
 
+-- the same of the nine rules
 abbrev pub IsVerdict : Record → ℕ → ℕ → Type 0
 IsVerdict r clause line = FailsFirst 1 rules r clause line
