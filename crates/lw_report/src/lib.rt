@@ -5,6 +5,7 @@
 
 mod parts;
 mod printed;
+mod read;
 mod text;
 mod threads;
 
