@@ -1,2 +1,4 @@
 pub mod LineParts
 pub mod LineKinds
+pub mod Pieces
+pub mod Machine

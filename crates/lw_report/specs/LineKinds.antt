@@ -1,5 +1,5 @@
 -- The lines of a report, kind by kind: what a line says, where it is one of the kind.
-use Rattle.std.specs.Prelude.{ℕ, zero, suc, Bool, ◌&&◌, ◌==◌, nat_le, nat_lt, ◌||◌, not, List, [], ◌∷◌, codes, length, bytes_eq, count_by, is_some, if◌then◌else◌, Option, Some, None, Ok, Err, option_map, option_and_then}
+use Rattle.std.specs.Prelude.{ℕ, zero, suc, Bool, ◌&&◌, ◌==◌, nat_le, nat_lt, ◌||◌, not, List, [], ◌∷◌, codes, length, bytes_eq, filter, is_some, if◌then◌else◌, Option, Some, None, Ok, Err, option_map, option_and_then}
 use Rattle.std.specs.List.{list_all}
 use Rattle.std.specs.Str.{is_utf8}
 use Rattle.hex.specs.Hex.{decode_of}
@@ -179,7 +179,7 @@ is_space b = b == 32
 -- the results of a visit, or of a cast where there are some and the first is no mark
 abbrev pub results_in : List ℕ → Option SeenBy
 results_in l =
-    let count = count_by is_space l in
+    let count = length (filter is_space l) in
     if count == 0 || is_some (mark l) then option_map by.Visit (results mark count l) else option_map by.Cast (results (spaced u32_max) count l)
 
 abbrev pub seen_in : List ℕ → Option Seen

@@ -1,5 +1,5 @@
 //! The lines of a report, one kind a function: what a line says, where it is one of the kind.
-ghost use Rattle.std.specs.Prelude.{◌≡◌, ℕ, List, IfOk, MatchOption, Some, None, option_map, count_by, is_some};
+ghost use Rattle.std.specs.Prelude.{◌≡◌, ℕ, List, IfOk, MatchOption, Some, None, option_map, filter, length, is_some};
 ghost use Rattle.std.specs.List.{list_all};
 ghost use Rattle.lw_report.specs.LineKinds.{ended, last32, last64, hop_in, visit_in, cast_in, what_in, ran_in, answer_in, did_in, called_in, is_no_capital, last_digits, decoded, bytes_in, replied_in, reply_in, mark, results, is_space, results_in, seen_in, thread_in, device_in, text_in, number_in, pair_in};
 ghost use Rattle.lw_model.specs.ReportText.{role_word};
@@ -285,15 +285,9 @@ fn is_space(byte: u8) -> bool
 }
 
 fn spaces(line: &[u8]) -> usize
-    ensures { result ≡ count_by is_space line.now }
+    ensures { result ≡ length (filter is_space line.now) }
 {
-    let mut count: usize = 0;
-    for byte in line {
-        if is_space(*byte) {
-            count += 1;
-        }
-    }
-    count
+    line.iter().copied().filter(|b| is_space(*b)).count()
 }
 
 fn marks(alloc: Global, count: usize, line: &[u8]) -> Result<Option<Items<Mark>>, NoMemory>
@@ -302,11 +296,13 @@ fn marks(alloc: Global, count: usize, line: &[u8]) -> Result<Option<Items<Mark>>
     let mut items = Vec::new(alloc);
     let mut rest = line;
     for _ in 0..count {
-        let Some((item, behind)) = mark(rest) else {
-            return Ok(None)
-        };
-        items.push(item)?;
-        rest = behind;
+        match mark(rest) {
+            Some((item, behind)) => {
+                items.push(item)?;
+                rest = behind;
+            }
+            None => return Ok(None),
+        }
     }
     Ok(if is_end(rest) {
         Some(Items::from_vec(items))
@@ -321,11 +317,13 @@ fn threads(alloc: Global, count: usize, line: &[u8]) -> Result<Option<Items<u32>
     let mut items = Vec::new(alloc);
     let mut rest = line;
     for _ in 0..count {
-        let Some((item, behind)) = number32(rest) else {
-            return Ok(None)
-        };
-        items.push(item)?;
-        rest = behind;
+        match number32(rest) {
+            Some((item, behind)) => {
+                items.push(item)?;
+                rest = behind;
+            }
+            None => return Ok(None),
+        }
     }
     Ok(if is_end(rest) {
         Some(Items::from_vec(items))
