@@ -1,5 +1,9 @@
 //! A report read back: a machine over lines.
+mod contents;
 mod kinds;
+mod line_kinds;
 mod lines;
 mod parts;
 mod script_lines;
+mod sections;
+mod single;
