@@ -1,0 +1,6 @@
+pub mod Values
+pub mod Views
+pub mod Parts
+pub mod Places
+pub mod Noted
+pub mod Maps

@@ -1,0 +1,10 @@
+//! A script, read from the bytes of its text.
+#![tactic(auto)]
+
+mod build;
+mod form;
+mod images;
+mod shape;
+mod value;
+
+pub use lw_model::{ClientOf, ImageOf, Items, Op, Script, ScriptRefusal, Text};
