@@ -4,3 +4,7 @@ pub mod Parts
 pub mod Places
 pub mod Noted
 pub mod Maps
+pub mod FirstFailing
+pub mod DistinctNames
+pub mod RuleLemmas
+pub mod FittedLemmas

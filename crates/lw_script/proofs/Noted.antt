@@ -11,12 +11,14 @@ option_or-none : {X : Type 0} (o : Option X) → o ≡ option_or o None
 option_or-none None = refl
 option_or-none (Some x) = refl
 
-bytes_eq-flip : (x y : List ℕ) → bytes_eq x y ≡ false → bytes_eq y x ≡ false
-bytes_eq-flip x y differ = by_test (bytes_eq y x) refl
+-- whichever comes first
+pub bytes_eq-comm : (x y : List ℕ) → bytes_eq x y ≡ bytes_eq y x
+bytes_eq-comm x y = by_tests (bytes_eq x y) (bytes_eq y x) refl refl
   where
-    by_test : (t : Bool) → bytes_eq y x ≡ t → bytes_eq y x ≡ false
-    by_test true e = let wrong : true ≡ false = sym ((bytes_eq-Decides x y).1 (sym ((bytes_eq-Decides y x).0 e))) ∙ differ in cc
-    by_test false e = e
+    by_tests : (t u : Bool) → bytes_eq x y ≡ t → bytes_eq y x ≡ u → bytes_eq x y ≡ bytes_eq y x
+    by_tests true u e f = e ∙ sym ((bytes_eq-Decides y x).1 (sym ((bytes_eq-Decides x y).0 e)))
+    by_tests false true e f = (bytes_eq-Decides x y).1 (sym ((bytes_eq-Decides y x).0 f)) ∙ sym f
+    by_tests false false e f = e ∙ sym f
 
 pub noted : (old : List ℕ → Option ℕ) (name q : List ℕ) (place : ℕ) → is_some (old name) ≡ false →
     cond (bytes_eq name q) (Some place) (old q) ≡ option_or (old q) (cond (bytes_eq q name) (Some place) None)
@@ -31,4 +33,4 @@ noted old name q place absent = by_test (bytes_eq name q) refl
     by_test false e =
         ap (λ t. cond t (Some place) (old q)) e
         ∙ option_or-none (old q)
-        ∙ sym (ap (λ t. option_or (old q) (cond t (Some place) None)) (bytes_eq-flip name q e))
+        ∙ sym (ap (λ t. option_or (old q) (cond t (Some place) None)) (bytes_eq-comm q name ∙ e))

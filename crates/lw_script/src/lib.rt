@@ -4,6 +4,11 @@
 mod build;
 mod form;
 mod images;
+mod limits;
+mod names;
+mod pattern;
+mod range;
+mod rules;
 mod shape;
 mod value;
 
