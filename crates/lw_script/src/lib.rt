@@ -8,8 +8,11 @@ mod limits;
 mod names;
 mod pattern;
 mod range;
+mod read;
 mod rules;
+mod served;
 mod shape;
 mod value;
 
 pub use lw_model::{ClientOf, ImageOf, Items, Op, Script, ScriptRefusal, Text};
+pub use read::read_script;
