@@ -1,5 +1,5 @@
 -- The outside in memory: what a call answers.
-use Rattle.std.specs.Prelude.{ℕ, zero, suc, ◌-◌, ◌==◌, Bool, ◌&&◌, nat_lt, List, [], ◌∷◌, ◌++◌, length, min, slice_index, if◌then◌else◌, Option, Some, None, Result, Ok, Err}
+use Rattle.std.specs.Prelude.{ℕ, zero, suc, ◌-◌, ◌==◌, Bool, ◌&&◌, ◌||◌, nat_lt, List, [], ◌∷◌, ◌++◌, length, min, slice_index, if◌then◌else◌, Option, Some, None, Result, Ok, Err}
 use Rattle.std.specs.List.{list_any}
 use Rattle.lw_base.specs.declared.names.Failed.{Failed}
 
@@ -7,9 +7,13 @@ use Rattle.lw_base.specs.declared.names.Failed.{Failed}
 abbrev pub fails_at : List ℕ → ℕ → Bool
 fails_at fails call = nat_lt call 18446744073709551615 && list_any (λ n. n == call) fails
 
--- what is left is shorter than the piece, or the piece than the room
-abbrev pub read_answer : List ℕ → ℕ → ℕ → ℕ → ℕ → Result ℕ Failed
-read_answer fails call left piece room = if fails_at fails call then Err (record {}) else Ok (min (min left piece) room)
+-- the count, where the call of this number isn't to fail
+abbrev pub unless_it_fails : List ℕ → ℕ → ℕ → Result ℕ Failed
+unless_it_fails fails call count = if fails_at fails call then Err (record {}) else Ok count
+
+-- the same for a call that can't move nothing
+abbrev pub unless_nothing : List ℕ → ℕ → ℕ → Result ℕ Failed
+unless_nothing fails call count = if fails_at fails call || count == 0 then Err (record {}) else Ok count
 
 -- a list's reading of this number, from 0: its last over and over at its end, and 0 where it has none
 abbrev pub reading_at : List ℕ → ℕ → ℕ

@@ -9,3 +9,13 @@ Rose old new = (old < new) ⊎ (new ≡ 18446744073709551615)
 abbrev pub Continues : Option (List ℕ) → ℕ → Option (List ℕ) → Type 0
 Continues before reading None = Unit {0}
 Continues before reading (Some after) = (told : List ℕ) × (before ≡ Some told) × (after ≡ told ++ reading ∷ [])
+
+-- a source that told what it had left has given these bytes since, from its front
+abbrev pub HasGiven : Option (List ℕ) → List ℕ → Option (List ℕ) → Type 0
+HasGiven None bytes after = Unit {0}
+HasGiven (Some left) bytes after = (rest : List ℕ) × (after ≡ Some rest) × (left ≡ bytes ++ rest)
+
+-- a sink that told what it held has taken these bytes since, behind that
+abbrev pub HasTaken : Option (List ℕ) → List ℕ → Option (List ℕ) → Type 0
+HasTaken None bytes after = Unit {0}
+HasTaken (Some held) bytes after = after ≡ Some (held ++ bytes)

@@ -1,7 +1,7 @@
 //! The outside in memory: for tests, and for callers that have the whole text.
-ghost use Rattle.std.specs.Prelude.{◌≡◌, ◌+◌, ◌<◌, ◌≤◌, ◌↔◌, [], ◌∷◌, ◌++◌, length, take, drop, min, Ok, Err, Some, IfOk, OnErr, IfSome, IsErr, Contains, vec_len, vec_capacity};
-ghost use Rattle.lw_base.specs.Outside.{Rose, Continues};
-ghost use Rattle.lw_base.specs.Memory.{fails_at, reading_at};
+ghost use Rattle.std.specs.Prelude.{◌≡◌, ◌+◌, ◌-◌, ◌<◌, ◌≤◌, [], ◌∷◌, ◌++◌, length, take, drop, min, Ok, Err, Some, IfOk, OnErr, IfSome, IsErr, Contains, vec_len, vec_capacity};
+ghost use Rattle.lw_base.specs.Outside.{Rose, Continues, HasGiven, HasTaken};
+ghost use Rattle.lw_base.specs.Memory.{fails_at, reading_at, unless_it_fails, unless_nothing};
 
 use crate::names::{Failed, Tick};
 use crate::outside::{Clock, Gate, Sink, Source};
@@ -51,17 +51,37 @@ impl Source for MemSource {
 
     ghost faults = { λ s. s.faults };
 
-    fn read(&mut self, into: &mut [u8]) -> Result<usize, Failed> {
+    fn read(&mut self, into: &mut [u8]) -> Result<usize, Failed>
+        requires { 0 < length into.old }
+        ensures answer { result ≡ unless_it_fails self.old.fails.items self.old.calls
+            (min (min (length self.old.bytes.items - self.old.read) self.old.piece) (length into.old)) }
+        ensures count { IfOk result (λ n. n ≤ length into.new) }
+        ensures next { IfOk result (λ n. HasGiven (Some (drop self.old.read self.old.bytes.items)) (take n into.new)
+            (Some (drop self.new.read self.new.bytes.items))) }
+        ensures end { IfOk result (λ n. n ≡ 0 → drop self.old.read self.old.bytes.items ≡ []) }
+        ensures steady { self.old.faults ≤ self.new.faults }
+        ensures failed { OnErr result (Rose self.old.faults self.new.faults
+            × (drop self.new.read self.new.bytes.items ≡ drop self.old.read self.old.bytes.items)) }
+        ensures counted { self.new.calls ≡ min (self.old.calls + 1) 18446744073709551615 }
+    {
         if fails_now(&mut self.calls, &self.fails) {
             self.faults = self.faults.saturating_add(1);
             return Err(Failed);
         }
-        let rest = &self.bytes[self.read..];
-        let count = cmp::min(cmp::min(rest.len(), self.piece), into.len());
-        into[..count].copy_from_slice(&rest[..count]);
+        let count = copy_front(&self.bytes[self.read..], into, self.piece);
         self.read += count;
         Ok(count)
     }
+}
+
+// Copies the front of a text, at most `most` bytes, to the front of a buffer.
+fn copy_front(text: &[u8], into: &mut [u8], most: usize) -> usize
+    ensures count { result ≡ min (min (length text.now) most) (length into.old) }
+    ensures front { take result into.new ≡ take result text.now }
+{
+    let count = cmp::min(cmp::min(text.len(), most), into.len());
+    into[..count].copy_from_slice(&text[..count]);
+    count
 }
 
 // Whether the call that begins now fails. It counts the call.
@@ -117,7 +137,16 @@ impl Sink for MemSink {
 
     ghost faults = { λ s. s.faults };
 
-    fn write(&mut self, piece: &[u8]) -> Result<usize, Failed> {
+    fn write(&mut self, piece: &[u8]) -> Result<usize, Failed>
+        requires { 0 < length piece.now }
+        ensures answer { result ≡ unless_nothing self.old.fails.items self.old.calls
+            (min (min (vec_capacity self.old.bytes - vec_len self.old.bytes) self.old.piece) (length piece.now)) }
+        ensures count { IfOk result (λ n. (1 ≤ n) × (n ≤ length piece.now)) }
+        ensures appended { IfOk result (λ n. HasTaken (Some self.old.bytes.items) (take n piece.now) (Some self.new.bytes.items)) }
+        ensures steady { self.old.faults ≤ self.new.faults }
+        ensures failed { OnErr result (Rose self.old.faults self.new.faults × (self.new.bytes.items ≡ self.old.bytes.items)) }
+        ensures counted { self.new.calls ≡ min (self.old.calls + 1) 18446744073709551615 }
+    {
         let fails = fails_now(&mut self.calls, &self.fails);
         let room = self.bytes.capacity() - self.bytes.len();
         let count = cmp::min(cmp::min(room, self.piece), piece.len());

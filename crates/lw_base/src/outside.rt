@@ -1,6 +1,6 @@
 //! The outside of a run: where bytes come from and go to, clocks, and a gate that a test can hold.
-ghost use Rattle.std.specs.Prelude.{◌≡◌, ◌+◌, ◌<◌, ◌≤◌, [], ◌∷◌, ◌++◌, length, take, drop, Some, IfOk, OnErr, IfSome};
-ghost use Rattle.lw_base.specs.Outside.{Rose, Continues};
+ghost use Rattle.std.specs.Prelude.{◌≡◌, ◌<◌, ◌≤◌, [], ◌∷◌, length, take, IfOk, OnErr, IfSome};
+ghost use Rattle.lw_base.specs.Outside.{Rose, Continues, HasGiven, HasTaken};
 
 use crate::names::{Failed, Tick};
 
@@ -20,9 +20,8 @@ pub trait Source {
     fn read(&mut self, into: &mut [u8]) -> Result<usize, Failed>
         requires { 0 < length into.old }
         ensures count { IfOk result (λ n. n ≤ length into.new) }
-        ensures next { IfOk result (λ n. IfSome (left self.old) (λ was.
-            (take n into.new ≡ take n was) × (left self.new ≡ Some (drop n was)))) }
-        ensures end { IfOk result (λ n. n ≡ 0 → IfSome (left self.old) (λ was. was ≡ [])) }
+        ensures next { IfOk result (λ n. HasGiven (left self.old) (take n into.new) (left self.new)) }
+        ensures end { IfOk result (λ n. n ≡ 0 → IfSome (left self.old) (λ rest. rest ≡ [])) }
         ensures steady { faults self.old ≤ faults self.new }
         ensures failed { OnErr result (Rose (faults self.old) (faults self.new) × (left self.new ≡ left self.old)) };
 }
@@ -43,8 +42,7 @@ pub trait Sink {
     fn write(&mut self, piece: &[u8]) -> Result<usize, Failed>
         requires { 0 < length piece.now }
         ensures count { IfOk result (λ n. (1 ≤ n) × (n ≤ length piece.now)) }
-        ensures appended { IfOk result (λ n. IfSome (holds self.old) (λ held.
-            holds self.new ≡ Some (held ++ take n piece.now))) }
+        ensures appended { IfOk result (λ n. HasTaken (holds self.old) (take n piece.now) (holds self.new)) }
         ensures steady { faults self.old ≤ faults self.new }
         ensures failed { OnErr result (Rose (faults self.old) (faults self.new) × (holds self.new ≡ holds self.old)) };
 }
