@@ -4,7 +4,7 @@ use Rattle.lw_model.specs.declared.record.Home.{Home}
 use Rattle.lw_report.specs.declared.read.single.FixedLine.{FixedLine}
 use Rattle.lw_report.specs.declared.read.single.FixedLine.TheVariants.{Title, StaticScheduler, End}
 use Rattle.lw_report.specs.declared.read.single.NumberLine.{NumberLine}
-use Rattle.lw_report.specs.declared.read.single.NumberLine.TheVariants.{Reactors, Period, Images, Clients}
+use Rattle.lw_report.specs.declared.read.single.NumberLine.TheVariants.{Period, Images, Clients}
 use Rattle.lw_report.specs.declared.read.single.PairLine.{PairLine}
 use Rattle.lw_report.specs.declared.read.single.PairLine.TheVariants.{Pool, Left}
 use Rattle.lw_report.specs.LineParts.{u64_max}
@@ -20,19 +20,16 @@ abbrev pub fixed_in : FixedLine → List ℕ → Option FixedLine
 fixed_in k l = if is_some (text_in (fixed_text k) l) then Some k else None
 
 abbrev pub number_word : NumberLine → List ℕ
-number_word Reactors = codes "reactors"
 number_word Period = codes "period"
 number_word Images = codes "images"
 number_word Clients = codes "clients"
 
 abbrev pub number_least : NumberLine → ℕ
-number_least Reactors = 1
 number_least Period = 1
 number_least Images = 0
 number_least Clients = 0
 
 abbrev pub number_most : NumberLine → ℕ
-number_most Reactors = 16
 number_most Period = 1000000000000
 number_most Images = u64_max
 number_most Clients = u64_max
@@ -48,3 +45,7 @@ pair_word Left = codes "home"
 -- a word and the pool's two counts
 abbrev pub pair_of_in : PairLine → List ℕ → Option Home
 pair_of_in k l = pair_in (pair_word k) l
+
+-- how many reactors there are
+abbrev pub reactors_in : List ℕ → Option ℕ
+reactors_in l = number_in (codes "reactors") 1 16 l

@@ -6,15 +6,16 @@ use Rattle.lw_model.specs.declared.record.Record.{Record}
 use Rattle.lw_model.specs.declared.record.ThreadRecord.{ThreadRecord}
 use Rattle.lw_model.specs.declared.record.RoleKind.{RoleKind}
 use Rattle.lw_model.specs.declared.record.RoleKind.TheVariants.{App, Client, Owner}
+use Rattle.lw_model.specs.declared.record.DeviceEnd.{DeviceEnd}
 use Rattle.lw_model.specs.declared.record.Reply.{Reply}
 use Rattle.lw_model.specs.declared.record.Seen.{Seen}
 use Rattle.lw_model.specs.ScriptRules.{rule_broken}
 use Rattle.lw_report.specs.declared.read.contents.Contents.{Contents}
 use Rattle.lw_report.specs.declared.read.single.FixedLine.TheVariants.{Title, StaticScheduler, End}
 use Rattle.lw_report.specs.declared.read.single.NumberLine.{NumberLine}
-use Rattle.lw_report.specs.declared.read.single.NumberLine.TheVariants.{Reactors, Period, Images, Clients}
+use Rattle.lw_report.specs.declared.read.single.NumberLine.TheVariants.{Period, Images, Clients}
 use Rattle.lw_report.specs.declared.read.single.PairLine.TheVariants.{Pool, Left}
-use Rattle.lw_report.specs.Once.{fixed_in, number_of_in, pair_of_in}
+use Rattle.lw_report.specs.Once.{fixed_in, number_of_in, pair_of_in, reactors_in}
 use Rattle.lw_report.specs.LineKinds.{hop_in, ran_in, did_in, called_in, reply_in, seen_in, thread_in, device_in, image_in, client_in, op_in}
 use Rattle.lw_report.specs.Pieces.{pieces}
 use Rattle.lw_report.specs.Machine.{State, ◌>>=◌, one, many, numbered, is_nil}
@@ -38,7 +39,7 @@ client_at s = do
 abbrev pub accepted : Script → State → Result (Script × State) ℕ
 accepted script s = if is_none (rule_broken script) then Ok (script, s) else Err s.line
 
-abbrev pub script_at : State → Result (Script × State) ℕ
+unfoldable pub script_at : State → Result (Script × State) ℕ
 script_at s = do
   pool ← one (pair_of_in Pool) s
   images ← list_at Images (λ n. one image_in) pool.1
@@ -77,27 +78,33 @@ thread_at clients images n s = do
 -- ---- the whole
 
 -- nothing is left
-abbrev pub finished : {X : Type 0} → X → State → Result X ℕ
-finished x s = if is_nil s.lines then Ok x else Err s.line
+abbrev pub finished : {X : Type 0} → X → State → Result (X × State) ℕ
+finished x s = if is_nil s.lines then Ok (x, s) else Err s.line
+
+unfoldable pub threads_at : Script → State → Result (List ThreadRecord × State) ℕ
+threads_at script s = numbered (1 + length script.clients + length script.images) 0 (thread_at (length script.clients) (length script.images)) s
+
+unfoldable pub devices_at : Script → State → Result (List DeviceEnd × State) ℕ
+devices_at script s = numbered (length script.images) 0 (λ d. one (device_in d)) s
 
 -- what stands behind the script's lines
-abbrev pub rest_at : ℕ → ℕ → Script → State → Result Contents ℕ
+abbrev pub rest_at : ℕ → ℕ → Script → State → Result (Contents × State) ℕ
 rest_at reactors period script s = do
-  threads ← numbered (1 + length script.clients + length script.images) 0 (thread_at (length script.clients) (length script.images)) s
-  devices ← numbered (length script.images) 0 (λ d. one (device_in d)) threads.1
+  threads ← threads_at script s
+  devices ← devices_at script threads.1
   home ← one (pair_of_in Left) devices.1
   end ← one (fixed_in End) home.1
   finished (record { script = script; reactors = reactors; period = period; threads = threads.0; devices = devices.0; home = home.0 }) end.1
 
-abbrev pub report_at : State → Result Contents ℕ
+abbrev pub report_at : State → Result (Contents × State) ℕ
 report_at s = do
   title ← one (fixed_in Title) s
   scheduler ← one (fixed_in StaticScheduler) title.1
-  reactors ← one (number_of_in Reactors) scheduler.1
+  reactors ← one reactors_in scheduler.1
   period ← one (number_of_in Period) reactors.1
   script ← script_at period.1
   rest_at reactors.0 period.0 script.0 script.1
 
 -- what a text says as a report, or its first bad line
 abbrev pub reading : List ℕ → Result Contents ℕ
-reading bytes = report_at (record { line = 1; lines = pieces bytes })
+reading bytes = report_at (record { line = 1; lines = pieces bytes }) >>= (λ p. Ok p.0)

@@ -4,6 +4,7 @@ mod kinds;
 mod line_kinds;
 mod lines;
 mod parts;
+mod report;
 mod script_lines;
 mod sections;
 mod single;

@@ -1,5 +1,5 @@
 //! The lines of a report, one kind a function: what a line says, where it is one of the kind.
-ghost use Rattle.std.specs.Prelude.{◌≡◌, ℕ, List, IfOk, MatchOption, Some, None, option_map, filter, length, is_some};
+ghost use Rattle.std.specs.Prelude.{◌≡◌, ◌≤◌, IfSome, ℕ, List, IfOk, MatchOption, Some, None, option_map, filter, length, is_some};
 ghost use Rattle.std.specs.List.{list_all};
 ghost use Rattle.lw_report.specs.LineKinds.{ended, last32, last64, hop_in, visit_in, cast_in, what_in, ran_in, answer_in, did_in, called_in, is_no_capital, last_digits, decoded, bytes_in, replied_in, reply_in, mark, results, is_space, results_in, seen_in, thread_in, device_in, text_in, number_in, pair_in};
 ghost use Rattle.lw_model.specs.ReportText.{role_word};
@@ -419,7 +419,8 @@ pub fn is_text(line: &[u8], text: &str) -> bool
 
 /// A word and a number of these bounds
 pub fn number_line(line: &[u8], word: &str, least: u64, most: u64) -> Option<u64>
-    ensures { result ≡ number_in word.now least most line.now }
+    ensures number { result ≡ number_in word.now least most line.now }
+    ensures within { IfSome result (λ n. n ≤ most) }
 {
     let value = last64(after(line, word)?)?;
     if value >= least && value <= most {

@@ -48,7 +48,6 @@ impl Kind for FixedLine {
 /// A word and one number.
 #[derive(Copy, Clone, Drop)]
 pub enum NumberLine {
-    Reactors,
     Period,
     Images,
     Clients,
@@ -59,7 +58,6 @@ impl NumberLine {
         ensures { result.now ≡ number_word self }
     {
         match self {
-            NumberLine::Reactors => "reactors",
             NumberLine::Period => "period",
             NumberLine::Images => "images",
             NumberLine::Clients => "clients",
@@ -70,7 +68,7 @@ impl NumberLine {
         ensures { result ≡ number_least self }
     {
         match self {
-            NumberLine::Reactors | NumberLine::Period => 1,
+            NumberLine::Period => 1,
             NumberLine::Images | NumberLine::Clients => 0,
         }
     }
@@ -79,7 +77,6 @@ impl NumberLine {
         ensures { result ≡ number_most self }
     {
         match self {
-            NumberLine::Reactors => 16,
             NumberLine::Period => 1_000_000_000_000,
             NumberLine::Images | NumberLine::Clients => u64::MAX,
         }
@@ -129,5 +126,24 @@ impl Kind for PairLine {
     fn read(&self, _alloc: Global, line: &[u8]) -> Result<Option<Home>, NoMemory> {
         let kind = *self;
         Ok(pair_line(line, kind.word()))
+    }
+}
+
+/// `reactors R`, 1 to 16
+#[derive(Copy, Clone, Drop)]
+pub struct ReactorsLine;
+
+impl Kind for ReactorsLine {
+    ghost use Rattle.lw_report.specs.Once.{reactors_in};
+
+    type Value = u32;
+
+    ghost of = { λ k l. reactors_in l };
+
+    fn read(&self, _alloc: Global, line: &[u8]) -> Result<Option<u32>, NoMemory> {
+        match number_line(line, "reactors", 1, 16) {
+            Some(reactors) => Ok(Some(reactors as u32)),
+            None => Ok(None),
+        }
     }
 }
