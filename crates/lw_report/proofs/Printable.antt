@@ -1,7 +1,7 @@
 -- What was read can be printed.
-use Rattle.std.proofs.Common.{◌≡◌, ℕ, zero, suc, ◌+◌, ◌<◌, ◌==◌, nat_lt, nat_le, Bool, true, false, ◌&&◌, not, if◌then◌else◌, List, [], ◌∷◌, codes, length, Option, Some, None, option_map, Result, Ok, Err, is_none, refl, sym, ap, subst, ◌∙◌, inl, inr, arith}
+use Rattle.std.proofs.Common.{◌≡◌, ℕ, zero, suc, ◌+◌, ◌<◌, ◌==◌, nat_lt, nat_le, Bool, true, false, ◌&&◌, ◌||◌, not, filter, is_some, if◌then◌else◌, List, [], ◌∷◌, codes, length, Option, Some, None, option_map, Result, Ok, Err, is_none, refl, sym, ap, subst, ◌∙◌, inl, inr, arith}
 use Rattle.std.specs.List.{list_all, enumerate_from}
-use Rattle.std.proofs.lemmas.Bool.{and_from, eq-eqb, ne_eqb, le-leb, lt-leb, lt-ltb, le-ltb, cases_lt, cases_eq}
+use Rattle.std.proofs.lemmas.Bool.{and_from, eq-eqb, ne_eqb, le-leb, lt-leb, lt-ltb, le-ltb, eqb-false, leb-false}
 use Rattle.lw_base.specs.declared.message.Tag.{Tag}
 use Rattle.lw_base.specs.declared.message.What.{What}
 use Rattle.lw_base.specs.declared.message.What.TheVariants as what
@@ -19,10 +19,16 @@ use Rattle.lw_model.specs.declared.record.Seen.{Seen}
 use Rattle.lw_model.specs.declared.record.SeenBy.{SeenBy}
 use Rattle.lw_model.specs.declared.record.SeenBy.TheVariants as by
 use Rattle.lw_model.specs.ScriptRules.{rule_broken, is_within}
-use Rattle.lw_model.specs.Printable.{has_a_line, has_bytes, has_results, has_role, is_printable_thread, is_printable}
+use Rattle.lw_model.specs.Printable.{has_a_line, has_bytes, has_results, has_role, may_reply, is_printable_thread, is_printable}
 use Rattle.lw_report.specs.LineParts.{after, spaced, u32_max, u64_max}
-use Rattle.lw_report.specs.LineKinds.{last32, last64, ended, visit_in, cast_in, what_in, ran_in, called_in, bytes_in, last_digits, decoded, replied_in, reply_in, results, mark, results_in, seen_in, number_in}
-use Rattle.lw_report.specs.Machine.{State, ◌>>=◌, one, many, many_from, numbered}
+use Rattle.lw_report.specs.LineKinds.{last32, last64, ended, visit_in, cast_in, what_in, ran_in, called_in, bytes_in, last_digits, decoded, replied_in, reply_in, results, mark, is_space, hop_in, did_in, image_in, thread_in, device_in, results_in, seen_in, number_in}
+use Rattle.lw_report.specs.declared.read.contents.Contents.{Contents}
+use Rattle.lw_report.specs.declared.read.single.FixedLine.TheVariants.{Title, StaticScheduler, End}
+use Rattle.lw_report.specs.declared.read.single.NumberLine.TheVariants.{Period, Images, Clients}
+use Rattle.lw_report.specs.declared.read.single.PairLine.TheVariants.{Pool, Left}
+use Rattle.lw_report.specs.Once.{fixed_in, number_of_in, pair_of_in, reactors_in}
+use Rattle.lw_report.specs.Machine.{State, ◌>>=◌, one, many, many_from, numbered, is_nil}
+use Rattle.lw_report.specs.Report.{list_at, client_at, script_at, role_at, thread_lines, thread_at, threads_at, devices_at, report_at}
 use Rattle.lw_report.proofs.Said.{read_parts, some_parts, map_parts, if_some, if_ok, one_said, many_all, numbered_all, chosen}
 
 -- ---- messages
@@ -125,3 +131,145 @@ results_length {X = X} one (suc k) l xs e =
   where
     some_is : {A : Type 0} {x y : A} → Some x ≡ Some y → x ≡ y
     some_is e = cc
+
+pub results_fit : (l : List ℕ) (x : SeenBy) → results_in l ≡ Some x → has_results x ≡ true
+results_fit l x e = at (length (filter is_space l) == 0) (is_some (mark l)) refl e
+  where
+    Has : SeenBy → Type 0
+    Has x = has_results x ≡ true
+
+    marks : Option SeenBy
+    marks = option_map by.Visit (results mark (length (filter is_space l)) l)
+
+    threads : Option SeenBy
+    threads = option_map by.Cast (results (spaced u32_max) (length (filter is_space l)) l)
+
+    some : (xs : List ℕ) → length xs ≡ length (filter is_space l) → (length (filter is_space l) == 0) ≡ false → Has (by.Cast xs)
+    some [] same none = absurd (eqb-false (length (filter is_space l)) 0 none (sym same))
+    some (x ∷ xs) same none = refl
+
+    at : (a b : Bool) → (length (filter is_space l) == 0) ≡ a → ◌≡◌ {A = Option SeenBy} (if a || b then marks else threads) (Some x) → Has x
+    at true b none e = let p = map_parts (results mark (length (filter is_space l)) l) by.Visit x e in subst Has p.2 refl
+    at false true none e = let p = map_parts (results mark (length (filter is_space l)) l) by.Visit x e in subst Has p.2 refl
+    at false false none e =
+        let p = map_parts (results (spaced u32_max) (length (filter is_space l)) l) by.Cast x e in
+        subst Has p.2 (some p.0 (results_length (spaced u32_max) (length (filter is_space l)) l p.0 p.1) none)
+
+pub seen_fits : (l : List ℕ) (x : Seen) → seen_in l ≡ Some x → has_results x.results ≡ true
+seen_fits l x e =
+    let a = some_parts (after (codes "seen") l) _ x e in
+    let b = some_parts (spaced u32_max a.0) _ x a.2 in
+    let d = some_parts (results_in b.0.1) _ x b.2 in
+    subst (λ (y : Seen). has_results y.results ≡ true) (some_is d.2) (results_fit b.0.1 d.0 d.1)
+  where
+    some_is : {A : Type 0} {x y : A} → Some x ≡ Some y → x ≡ y
+    some_is e = cc
+
+-- ---- threads
+
+role_fits : (clients n : ℕ) → has_role clients n (role_at clients n) ≡ true
+role_fits clients n = at (n == 0) (nat_le n clients) refl refl
+  where
+    at : (a b : Bool) → (n == 0) ≡ a → nat_le n clients ≡ b → has_role clients n (if a then App else (if b then Client else Owner)) ≡ true
+    at true b first within = first
+    at false true first within = and_from (nat_le 1 n) (nat_le n clients) (le-leb 1 n (omega (arith, eqb-false n 0 first))) within
+    at false false first within = lt-ltb clients n (omega (arith, leb-false n clients within))
+
+own_fits : (role : RoleKind) (home images : ℕ) (s : State) → may_reply role (thread_lines role home images s).0 ≡ true
+own_fits App home images s = refl
+own_fits Owner home images s = refl
+own_fits Client home images s =
+    let called = many (called_in images) (many did_in (many ran_in (many hop_in s).1).1).1 in
+    let replies = many reply_in called.1 in
+    and_from (list_all (λ (r : Reply). has_bytes r.answer) replies.0) (list_all (λ (x : Seen). has_results x.results) (many seen_in replies.1).0)
+    (many_all reply_in (λ r. has_bytes r.answer) reply_fits called.1.line called.1.lines)
+    (many_all seen_in (λ x. has_results x.results) seen_fits replies.1.line replies.1.lines)
+
+thread_fits : (script : Script) (n home : ℕ) (s : State) → is_printable_thread script n (thread_lines (role_at (length script.clients) n) home (length script.images) s).0 ≡ true
+thread_fits script n home s =
+    let role = role_at (length script.clients) n in
+    let hops = many hop_in s in
+    let ran = many ran_in hops.1 in
+    let did = many did_in ran.1 in
+    let called = many (called_in (length script.images)) did.1 in
+    let a = has_role (length script.clients) n role in
+    let b = may_reply role (thread_lines role home (length script.images) s).0 in
+    let c = list_all (λ (m : Tag). has_a_line m.what) ran.0 in
+    let d = list_all (λ (x : Called). nat_lt x.device (length script.images)) called.0 in
+    and_from (a && b && c) d
+    (and_from (a && b) c (and_from a b (role_fits (length script.clients) n) (own_fits role home (length script.images) s)) (many_all ran_in (λ m. has_a_line m.what) ran_has hops.1.line hops.1.lines))
+    (many_all (called_in (length script.images)) (λ x. nat_lt x.device (length script.images)) (called_below (length script.images)) did.1.line did.1.lines)
+
+thread_said : (script : Script) (n : ℕ) (s t : State) (x : ThreadRecord) → thread_at (length script.clients) (length script.images) n s ≡ Ok (x, t) → is_printable_thread script n x ≡ true
+thread_said script n s t x e =
+    let role = role_at (length script.clients) n in
+    let a = read_parts (one (thread_in role n) s) (λ h. Ok (thread_lines role h.0 (length script.images) h.1)) (x, t) e in
+    subst (λ y. is_printable_thread script n y ≡ true) (first_is a.2) (thread_fits script n a.0.0 a.0.1)
+  where
+    first_is : {p : ThreadRecord × State} → ◌≡◌ {A = Result (ThreadRecord × State) ℕ} (Ok p) (Ok (x, t)) → p.0 ≡ x
+    first_is {p} e = ap (λ (r : Result (ThreadRecord × State) ℕ). elim r [ Ok q ↦ q.0 | Err n ↦ x ]) e
+
+-- ---- the whole
+
+reactors_within : (l : List ℕ) (n : ℕ) → reactors_in l ≡ Some n → is_within 1 16 n ≡ true
+reactors_within l n e =
+    let a = some_parts (after (codes "reactors") l) _ n e in
+    let b = some_parts (last64 a.0) _ n a.2 in
+    let d = if_some (is_within 1 16 b.0) b.0 n b.2 in
+    subst (λ k. is_within 1 16 k ≡ true) d.1 d.0
+
+period_within : (l : List ℕ) (n : ℕ) → number_of_in Period l ≡ Some n → is_within 1 1000000000000 n ≡ true
+period_within l n e =
+    let a = some_parts (after (codes "period") l) _ n e in
+    let b = some_parts (last64 a.0) _ n a.2 in
+    let d = if_some (is_within 1 1000000000000 b.0) b.0 n b.2 in
+    subst (λ k. is_within 1 1000000000000 k ≡ true) d.1 d.0
+
+script_accepted : (s t : State) (script : Script) → script_at s ≡ Ok (script, t) → is_none (rule_broken script) ≡ true
+unfolding script_at
+script_accepted s t script e =
+    let a = read_parts (one (pair_of_in Pool) s) _ (script, t) e in
+    let b = read_parts (list_at Images (λ n. one image_in) a.0.1) _ (script, t) a.2 in
+    let c = read_parts (list_at Clients (λ n. client_at) b.0.1) _ (script, t) b.2 in
+    let whole : Script = record { images = b.0.0; clients = c.0.0; small = a.0.0.small; large = a.0.0.large } in
+    let d = if_ok (is_none (rule_broken whole)) (whole, c.0.1) (script, t) c.0.1.line c.2 in
+    subst (λ q. is_none (rule_broken q) ≡ true) (ap (λ (p : Script × State). p.0) d.1) d.0
+
+-- the parts of a record's rule, for what a report says
+pub contents_fit : (s t : State) (c : Contents) → report_at s ≡ Ok (c, t) → is_printable c.script Static c.reactors c.period c.threads c.devices None [] ≡ true
+unfolding threads_at devices_at
+contents_fit s t c e =
+    let a = read_parts (one (fixed_in Title) s) _ (c, t) e in
+    let b = read_parts (one (fixed_in StaticScheduler) a.0.1) _ (c, t) a.2 in
+    let r = read_parts (one reactors_in b.0.1) _ (c, t) b.2 in
+    let p = read_parts (one (number_of_in Period) r.0.1) _ (c, t) r.2 in
+    let k = read_parts (script_at p.0.1) _ (c, t) p.2 in
+    let th = read_parts (threads_at k.0.0 k.0.1) _ (c, t) k.2 in
+    let de = read_parts (devices_at k.0.0 th.0.1) _ (c, t) th.2 in
+    let ho = read_parts (one (pair_of_in Left) de.0.1) _ (c, t) de.2 in
+    let en = read_parts (one (fixed_in End) ho.0.1) _ (c, t) ho.2 in
+    let whole : Contents = record { script = k.0.0; reactors = r.0.0; period = p.0.0; threads = th.0.0; devices = de.0.0; home = ho.0.0 } in
+    let last = if_ok (is_nil en.0.1.lines) (whole, en.0.1) (c, t) en.0.1.line en.2 in
+    let reactors = one_said reactors_in b.0.1 r.0.1 r.0.0 r.1 in
+    let period = one_said (number_of_in Period) r.0.1 p.0.1 p.0.0 p.1 in
+    let threads = numbered_all (thread_at (length k.0.0.clients) (length k.0.0.images)) (is_printable_thread k.0.0) (thread_said k.0.0) (1 + length k.0.0.clients + length k.0.0.images) 0 k.0.1 th.0.1 th.0.0 th.1 in
+    let devices = numbered_all (λ d. one (device_in d)) (λ n x. true) (λ n s t x e. refl) (length k.0.0.images) 0 th.0.1 de.0.1 de.0.0 de.1 in
+    let q1 = is_none (rule_broken k.0.0) in
+    let q2 = is_within 1 16 r.0.0 in
+    let q3 = is_within 1 1000000000000 p.0.0 in
+    let q4 = length th.0.0 == 1 + length k.0.0.clients + length k.0.0.images in
+    let q5 = list_all (λ (q : ℕ × ThreadRecord). is_printable_thread k.0.0 q.0 q.1) (enumerate_from 0 th.0.0) in
+    let q6 = length de.0.0 == length k.0.0.images in
+    let fit : is_printable k.0.0 Static r.0.0 p.0.0 th.0.0 de.0.0 None [] ≡ true =
+    and_from (q1 && q2 && q3 && q4 && q5 && q6) true
+    (and_from (q1 && q2 && q3 && q4 && q5) q6
+    (and_from (q1 && q2 && q3 && q4) q5
+    (and_from (q1 && q2 && q3) q4
+    (and_from (q1 && q2) q3
+    (and_from q1 q2 (script_accepted p.0.1 k.0.1 k.0.0 k.1) (reactors_within reactors.0 r.0.0 reactors.1))
+    (period_within period.0 p.0.0 period.1))
+    (eq-eqb (length th.0.0) (1 + length k.0.0.clients + length k.0.0.images) threads.0))
+    threads.1)
+    (eq-eqb (length de.0.0) (length k.0.0.images) devices.0))
+    refl in
+    subst (λ (x : Contents). is_printable x.script Static x.reactors x.period x.threads x.devices None [] ≡ true) (ap (λ (q : Contents × State). q.0) last.1) fit

@@ -39,14 +39,14 @@ one_said {X = X} f s t x e = at s.lines e
           | Some y ↦ Ok (y, (elim o as (λ _. Option X × State) [ Some z ↦ (Some z, record { line = s.line + 1; lines = ls }) | None ↦ (None, record { line = s.line; lines = l ∷ ls }) ]).1)
           | None ↦ Err s.line
         ]) (Ok (x, t)) → (l : List ℕ) × (f l ≡ Some x)
-    by l ls None is e = let wrong : Err s.line ≡ Ok (x, t) = e in cc
+    by l ls None is e = let wrong : ◌≡◌ {A = Result (X × State) ℕ} (Err s.line) (Ok (x, t)) = e in cc
     by l ls (Some y) is e = (l, is ∙ ap Some (first_same e))
       where
-        first_same : Ok (y, record { line = s.line + 1; lines = ls }) ≡ Ok (x, t) → y ≡ x
+        first_same : ◌≡◌ {A = Result (X × State) ℕ} (Ok (y, record { line = s.line + 1; lines = ls })) (Ok (x, t)) → y ≡ x
         first_same e = ap (λ (r : Result (X × State) ℕ). elim r [ Ok p ↦ p.0 | Err n ↦ x ]) e
 
     at : (ls : List (List ℕ)) → one f (record { line = s.line; lines = ls }) ≡ Ok (x, t) → (l : List ℕ) × (f l ≡ Some x)
-    at [] e = let wrong : Err s.line ≡ Ok (x, t) = e in cc
+    at [] e = let wrong : ◌≡◌ {A = Result (X × State) ℕ} (Err s.line) (Ok (x, t)) = e in cc
     at (l ∷ ls) e = by l ls (f l) refl e
 
 pub many_all : {X : Type 0} (f : List ℕ → Option X) (p : X → Bool) → ((l : List ℕ) (x : X) → f l ≡ Some x → p x ≡ true) → (n : ℕ) (ls : List (List ℕ)) → list_all p (many_from f n ls).0 ≡ true
@@ -67,18 +67,17 @@ numbered_all {X = X} f p each (suc k) n s t xs e =
     let a = read_parts (f n s) (λ x. numbered k (n + 1) f x.1 >>= (λ ys. Ok (x.0 ∷ ys.0, ys.1))) (xs, t) e in
     let b = read_parts (numbered k (n + 1) f a.0.1) (λ ys. Ok (a.0.0 ∷ ys.0, ys.1)) (xs, t) a.2 in
     let rest = numbered_all f p each k (n + 1) a.0.1 b.0.1 b.0.0 b.1 in
-    let all : a.0.0 ∷ b.0.0 ≡ xs = ap (λ (r : Result (List X × State) ℕ). elim r [ Ok q ↦ q.0 | Err m ↦ xs ]) b.2 in
-    (
+    let all : a.0.0 ∷ b.0.0 ≡ xs = ap (λ (r : Result (List X × State) ℕ). elim r [ Ok q ↦ q.0 | Err m ↦ xs ]) b.2 in (
       sym (ap length all) ∙ ap suc rest.0,
       ap (λ ys. list_all (λ (q : ℕ × X). p q.0 q.1) (enumerate_from n ys)) (sym all)
-      ∙ and_from (p n a.0.0) (list_all (λ q. p q.0 q.1) (enumerate_from (n + 1) b.0.0)) (each n s a.0.1 a.0.0 a.1) rest.1,
+          ∙ and_from (p n a.0.0) (list_all (λ q. p q.0 q.1) (enumerate_from (n + 1) b.0.0)) (each n s a.0.1 a.0.0 a.1) rest.1,
     )
 
 -- what holds of each choice holds of what was chosen
 pub chosen : {X : Type 0} (P : X → Type 0) (text l : List ℕ) (f : List ℕ → Option X) (other : Option X) (x : X)
     → ((rest : List ℕ) → f rest ≡ Some x → P x) → (other ≡ Some x → P x) → choose text l f other ≡ Some x → P x
-chosen {X = X} P text l f other x yes rest e = at (after text l) e
+chosen {X = X} P text l f other x here rest e = at (after text l) e
   where
     at : (o : Option (List ℕ)) → ◌≡◌ {A = Option X} (elim o [ Some r ↦ f r | None ↦ other ]) (Some x) → P x
     at None e = rest e
-    at (Some r) e = yes r e
+    at (Some r) e = here r e

@@ -4,3 +4,4 @@ pub mod Once
 pub mod Pieces
 pub mod Machine
 pub mod Report
+pub mod Parsed

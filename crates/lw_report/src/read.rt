@@ -3,8 +3,11 @@ mod contents;
 mod kinds;
 mod line_kinds;
 mod lines;
+mod parsed;
 mod parts;
 mod report;
 mod script_lines;
 mod sections;
 mod single;
+
+pub use parsed::{Parsed, read_report};

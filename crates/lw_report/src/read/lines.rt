@@ -38,6 +38,7 @@ impl<T: Drop> From<AllocFailed<T>> for Stop {
 }
 
 /// The lines of a text that are left, with the number of the first, from 1.
+#[derive(Drop)]
 pub struct Lines<'a> {
     rest: &'a [u8],
     end: usize,
