@@ -7,6 +7,9 @@ mod refusal;
 mod script;
 
 pub use items::{Items, Text};
-pub use record::{Answer, Called, DeviceEnd, Did, Home, Hop, Order, Record, Replied, Reply, RoleKind, Round, Row, Scheduler, Seen, SeenBy, Span, ThreadRecord};
+pub use record::{
+    Answer, Called, DeviceEnd, Did, Home, Hop, Order, Record, Replied, Reply, RoleKind, Round, Row,
+    Scheduler, Seen, SeenBy, Span, ThreadRecord,
+};
 pub use refusal::ScriptRefusal;
 pub use script::{ClientOf, ImageOf, Op, Script};

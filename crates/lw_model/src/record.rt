@@ -3,8 +3,8 @@ ghost use Rattle.std.specs.Prelude.{◌≡◌, true};
 ghost use Rattle.lw_model.specs.Printable.{is_printable};
 
 use crate::items::Items;
-use lw_base::{Mark, Tag, Tick};
 use crate::script::Script;
+use lw_base::{Mark, Tag, Tick};
 
 #[derive(Drop)]
 pub struct Record {

@@ -1,0 +1,10 @@
+pub mod Values
+pub mod Views
+pub mod Parts
+pub mod Places
+pub mod Noted
+pub mod Maps
+pub mod FirstFailing
+pub mod DistinctNames
+pub mod RuleLemmas
+pub mod FittedLemmas

@@ -1,0 +1,5 @@
+pub mod Shape
+pub mod Form
+pub mod Fitted
+pub mod First
+pub mod Rules
