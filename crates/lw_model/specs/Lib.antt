@@ -5,3 +5,17 @@ pub mod ReportText
 pub mod Printable
 pub mod Replay
 pub mod Served
+pub mod Threads
+pub mod OwnOrder
+pub mod Holding
+pub mod Sent
+pub mod Journal
+pub mod Plan
+pub mod Moves
+pub mod Answers
+pub mod Devices
+pub mod Rounds
+pub mod Lawful
+pub mod Same
+pub mod Lines
+pub mod Verdict

@@ -2,14 +2,16 @@
 #![tactic(auto)]
 
 mod items;
+mod laws;
 mod record;
 mod refusal;
 mod script;
+mod step;
+#[cfg(test)]
+mod tests;
 
 pub use items::{Items, Text};
+pub use laws::{journals_are_of_clients, verdict_is_exact, verdict_is_first};
 pub use record::{
-    Answer, Called, DeviceEnd, Did, Home, Hop, Order, Record, Replied, Reply, RoleKind, Round, Row,
-    Scheduler, Seen, SeenBy, Span, ThreadRecord,
-};
-pub use refusal::ScriptRefusal;
-pub use script::{ClientOf, ImageOf, Op, Script};
+    Answer, Called, DeviceEnd, Did, Home, Hop, Limits, Order, Record, Replied, Reply, RoleKind,
+    Round, Row, Scheduler, Seen, SeenBy, Span, ThreadRecord,

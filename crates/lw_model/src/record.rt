@@ -1,11 +1,16 @@
-// The record of a run: what each thread did, what each device came to, the rounds, and the pool at the end.
+//! The record of a run: what each thread did, what each device came to, the rounds, and the pool at the end.
 ghost use Rattle.std.specs.Prelude.{◌≡◌, true};
 ghost use Rattle.lw_model.specs.Printable.{is_printable};
+ghost use Rattle.lw_model.specs.Plan.{standard};
 
 use crate::items::Items;
 use crate::script::Script;
 use lw_base::{Mark, Tag, Tick};
 
+/// What a run leaves behind, in full: a report is the text of one.
+///
+/// Its ghost field keeps that it has a text: the script is one that is accepted, reactors are 1 to 16, the period is 1
+/// to 10^12, each thread has its entry and its role, replies and results stand under clients alone, and so on.
 #[derive(Drop)]
 pub struct Record {
     pub script: Script,
@@ -20,24 +25,36 @@ pub struct Record {
     pub ghost printable: { is_printable script scheduler reactors period threads devices span rounds ≡ true },
 }
 
+/// Whether light threads may move between reactors.
 #[derive(Copy, Clone, Drop)]
 pub enum Scheduler {
+    /// Each thread stays on its home reactor, and there are no rounds.
     Static,
+    /// Rounds measure the load and order threads to move.
     Dynamic,
 }
 
+/// What one thread did. Within each list the order is that in which things happened.
 #[derive(Drop)]
 pub struct ThreadRecord {
     pub role: RoleKind,
+    /// The reactor on which it started.
     pub home: u32,
+    /// Its moves.
     pub hops: Items<Hop>,
+    /// The messages that it ran.
     pub ran: Items<Tag>,
+    /// What its ops were answered.
     pub did: Items<Did>,
+    /// The callbacks that were made on it.
     pub called: Items<Called>,
+    /// The replies to its requests; a client's alone.
     pub replies: Items<Reply>,
+    /// The results of its visits and casts; a client's alone.
     pub seen: Items<Seen>,
 }
 
+/// What a thread is: thread 0 is the app, the clients follow in script order, then the owners in image order.
 #[derive(Copy, Clone, Drop)]
 pub enum RoleKind {
     App,
@@ -45,12 +62,15 @@ pub enum RoleKind {
     Owner,
 }
 
+/// A move of a thread to a reactor, with the number of the round that ordered it.
 #[derive(Copy, Clone, Drop)]
 pub struct Hop {
     pub round: u32,
     pub reactor: u32,
 }
 
+/// What one op was answered, when the thread had run `at` messages. For the app `op` is a device's number; a client's
+/// `Closed` has the number of its ops.
 #[derive(Copy, Clone, Drop)]
 pub struct Did {
     pub at: u64,
@@ -58,53 +78,77 @@ pub struct Did {
     pub answer: Answer,
 }
 
+/// What an op is answered.
 #[derive(Copy, Clone, Drop)]
 pub enum Answer {
+    /// A get made the channel. Its ordinal counts the device's channels from 0.
     Given { ordinal: u64 },
+    /// A get found the channel standing.
     Again { ordinal: u64 },
+    /// A get or a visit found the device being unregistered.
     Shut,
+    /// A put gave one of several references back.
     Counted,
+    /// A put gave the last reference back: the thread sent itself a PutSelf.
     Deferred,
+    /// The client holds no reference.
     NoChannel,
+    /// A request went to the owner.
     Sent,
+    /// A wait is over.
     Waited,
+    /// A visit or a cast is on its way.
     Started,
+    /// An unregistration began, after so many channels had been given.
     Began { given: u64 },
+    /// The device was being unregistered already.
     Already,
+    /// A client had done all its ops, and gave all its references back.
     Closed,
 }
 
+/// A device's callback, made when the thread had run `at` messages.
 #[derive(Copy, Clone, Drop)]
 pub struct Called {
     pub at: u64,
     pub device: u32,
 }
 
+/// The reply to a client's request, by the number of the op.
 #[derive(Drop)]
 pub struct Reply {
     pub op: u32,
     pub answer: Replied,
 }
 
+/// What an owner replies.
 #[derive(Drop)]
 pub enum Replied {
+    /// A write was done.
     Ok,
+    /// The bytes of a read, one or more.
     Bytes(Items<u8>),
+    /// How many writes had been done before a flush.
     Writes(u64),
 }
 
+/// The results of a client's visit or cast, by the number of the op.
 #[derive(Drop)]
 pub struct Seen {
     pub op: u32,
     pub results: SeenBy,
 }
 
+/// The results of a visit or a cast, by ascending thread.
 #[derive(Drop)]
 pub enum SeenBy {
+    /// The threads that held a channel of the device, each with its submitted requests; maybe none.
     Visit(Items<Mark>),
+    /// The threads that the cast reached, one or more.
     Cast(Items<u32>),
 }
 
+/// What a device came to: the channels given, the thread that unregistered it, and the callbacks made.
 #[derive(Copy, Clone, Drop)]
 pub struct DeviceEnd {
     pub given: u64,
@@ -112,12 +156,14 @@ pub struct DeviceEnd {
     pub callbacks: u32,
 }
 
+/// Reactor 0's first and last first readings of a turn.
 #[derive(Copy, Clone, Drop)]
 pub struct Span {
     pub first: u64,
     pub last: u64,
 }
 
+/// A round of the dynamic scheduler: its number from 1, its time, what it measured and what it ordered.
 #[derive(Drop)]
 pub struct Round {
     pub number: u32,
@@ -126,6 +172,7 @@ pub struct Round {
     pub orders: Items<Order>,
 }
 
+/// A thread in a round: the reactor it stood on, and its busy and idle ticks since the round before.
 #[derive(Copy, Clone, Drop)]
 pub struct Row {
     pub thread: u32,
@@ -134,12 +181,38 @@ pub struct Row {
     pub idle: u64,
 }
 
+/// The numbers of the plan of a round, in parts of 100.
+#[derive(Copy, Clone, Drop)]
+pub struct Limits {
+    /// A thread with less load than this goes to reactor 0.
+    pub load: u32,
+    /// A reactor has room for a thread where the planned load and the thread's are together at most this.
+    pub core: u32,
+    /// A reactor with more load than this gives threads away.
+    pub busy: u32,
+}
+
+impl Limits {
+    /// The limits that every reactor and the judge go by: 20, 80 and 95.
+    pub fn standard() -> Self
+        ensures { result ≡ standard }
+    {
+        Limits {
+            load: 20,
+            core: 80,
+            busy: 95,
+        }
+    }
+}
+
+/// The order of a round that a thread moves to a reactor.
 #[derive(Copy, Clone, Drop)]
 pub struct Order {
     pub thread: u32,
     pub to: u32,
 }
 
+/// The buffers of each class that stood in the pool at the end.
 #[derive(Copy, Clone, Drop)]
 pub struct Home {
     pub small: u32,
