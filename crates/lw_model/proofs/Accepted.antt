@@ -1,12 +1,12 @@
 -- What bytes without a refusal keep.
-use Rattle.std.proofs.Common.{◌≡◌, ◌≤◌, ◌<◌, ℕ, Bool, true, false, nat_lt, List, length, Option, Some, None, is_none, option_map, if◌then◌else◌, arith, refl, ap, sym, ◌∙◌, subst}
+use Rattle.std.proofs.Common.{◌≡◌, ◌≤◌, ℕ, Bool, true, false, nat_lt, List, length, Option, Some, None, is_none, option_map, if◌then◌else◌, arith, refl, ap, sym, ◌∙◌, subst}
 use Rattle.std.proofs.lemmas.Bool.{lt-ltb}
 use Rattle.serde_json.specs.Data.{Data}
 use Rattle.lw_model.specs.declared.script.Script.{Script}
 use Rattle.lw_model.specs.declared.refusal.ScriptRefusal.{ScriptRefusal}
 use Rattle.lw_model.specs.declared.refusal.ScriptRefusal.TheVariants.{TooLong, NotJson, NotBuilt}
 use Rattle.lw_model.specs.ScriptRules.{rule_broken}
-use Rattle.lw_model.specs.ScriptShape.{value_answers, value_refusal, script_in}
+use Rattle.lw_model.specs.ScriptShape.{value_answers, script_in}
 use Rattle.lw_model.specs.ScriptText.{value_of, refusal_of, refusal_by_value, script_of}
 use Rattle.lw_model.specs.Served.{is_served, unserved, run_refusal}
 use Rattle.lw_model.proofs.Rules.{each-none}

@@ -15,3 +15,7 @@ pub use laws::{journals_are_of_clients, verdict_is_exact, verdict_is_first};
 pub use record::{
     Answer, Called, DeviceEnd, Did, Home, Hop, Limits, Order, Record, Replied, Reply, RoleKind,
     Round, Row, Scheduler, Seen, SeenBy, Span, ThreadRecord,
+};
+pub use refusal::ScriptRefusal;
+pub use script::{ClientOf, ImageOf, Op, Script};
+pub use step::Step;

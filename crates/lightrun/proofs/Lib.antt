@@ -1,4 +1,0 @@
-mod Ending
-mod Reported
-mod Streams
-mod Told

@@ -1,5 +1,0 @@
-pub mod Bytes
-pub mod Words
-pub mod Statuses
-pub mod Runs
-pub mod Program
