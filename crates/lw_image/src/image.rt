@@ -53,7 +53,7 @@ impl Image {
     pub fn write(&mut self, start: u64, count: u64, pattern: &[u8])
         requires range { HasRange self.old start count }
         requires pattern { 0 < length pattern.now }
-        requires room { self.old.writes < 2 ^ 47 }
+        requires room { self.old.writes + 1 < 2 ^ 64 }
         ensures size { SameSize self.old self.new }
         ensures writes { self.new.writes ≡ self.old.writes + 1 }
         ensures after { (device : ℕ) (past : List (Option Op)) → IsAfter self.old past
