@@ -60,7 +60,7 @@ impl Image {
             → IsAfter self.new (Some (Op.Write device start count pattern.now) ∷ past) }
     {
         let first = self.first_byte(start, count);
-        let length = (count * self.block as u64) as usize;
+        let length = self.length(count);
         fill_with(&mut self.bytes[first..first + length], pattern);
         self.writes += 1;
     }
@@ -94,10 +94,11 @@ impl Image {
         (start * self.block as u64) as usize
     }
 
-    /// The size of a block in bytes.
-    pub fn block(&self) -> u32
-        ensures { result ≡ self.now.block }
+    /// How many bytes so many of its blocks are.
+    pub fn length(&self, count: u64) -> usize
+        requires { count ≤ self.now.blocks }
+        ensures { result ≡ count * self.now.block }
     {
-        self.block
+        (count * self.block as u64) as usize
     }
 }

@@ -2,16 +2,19 @@
 //! the loop that turns them.
 #![tactic(auto)]
 
+mod action;
 mod acts;
 mod app;
+mod channel;
 mod client;
 mod device;
 mod mail;
 mod owner;
 mod post;
+mod posts;
 mod run;
-mod turns;
 #[cfg(test)]
 mod tests;
+mod turns;
 
 pub use run::run_script;

@@ -1,6 +1,9 @@
 //! What the threads of the target send each other.
+ghost use Rattle.std.specs.Prelude.{◌≡◌, IfOk};
+ghost use Rattle.lw_target.specs.Messages.{operands};
+
 use lw_base::{NoMemory, Tag};
-use lw_model::{Op, Replied};
+use lw_model::{Items, Op, Replied};
 use std::alloc::Global;
 
 /// A message: its tag, and what it carries.
@@ -17,7 +20,7 @@ pub enum Load {
     Write {
         start: u64,
         count: u64,
-        pattern: Vec<u8>,
+        pattern: Items<u8>,
     },
     /// The operands of a read.
     Read {
@@ -29,13 +32,15 @@ pub enum Load {
     Nothing,
 }
 
-/// The operands of a write or a read, and nothing for any other op. The pattern is copied here, once.
-pub fn load_of(alloc: Global, op: &Op) -> Result<Load, NoMemory> {
+/// What an op hands to the owner of its image. The pattern is copied here, once.
+pub fn load_of(alloc: Global, op: &Op) -> Result<Load, NoMemory>
+    ensures { IfOk result (λ load. load ≡ operands op.now) }
+{
     match op {
         Op::Write { start, count, pattern, .. } => Ok(Load::Write {
             start: *start,
             count: *count,
-            pattern: Vec::from_slice(alloc, pattern.as_slice())?,
+            pattern: Items::from_vec(Vec::from_slice(alloc, pattern.as_slice())?),
         }),
         Op::Read { start, count, .. } => Ok(Load::Read {
             start: *start,

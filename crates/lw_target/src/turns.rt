@@ -1,24 +1,17 @@
 //! The loop: the app, the client and the owner take turns, and their messages are carried between them.
-use crate::acts::{Acts, Send};
+ghost use Rattle.std.specs.Prelude.{◌≡◌, cond, OnOk, IfOk};
+
+use crate::acts::Acts;
 use crate::app::{App, APP};
 use crate::client::Client;
 use crate::device::Device;
 use crate::owner::Owner;
-use crate::post::Post;
+use crate::posts::{Posts, CLIENT, OWNER};
 use lw_base::NoMemory;
 use std::alloc::Global;
 
 /// How many messages a thread runs in one poll.
-const MESSAGES_OF_A_POLL: usize = 8;
-
-/// The client's thread.
-pub const CLIENT: u32 = 1;
-
-/// The owner's thread.
-pub const OWNER: u32 = 2;
-
-/// How many threads there are.
-pub const THREADS: usize = 3;
+const MESSAGES_OF_A_POLL: u32 = 8;
 
 /// A run of one client on one image.
 #[derive(Drop)]
@@ -27,85 +20,110 @@ pub struct Target {
     pub client: Client,
     pub owner: Owner,
     pub devices: Vec<Device>,
-    pub to_app: Post,
-    pub to_client: Post,
-    pub to_owner: Post,
+    pub posts: Posts,
     pub acts: Acts,
 }
 
 impl Target {
-    /// Turns the threads until all have ended.
-    pub fn run(&mut self, alloc: Global) -> Result<(), NoMemory> {
+    ghost use Rattle.lw_target.specs.Turns.{IsRunning, Turned};
+
+    /// Turns the threads as long as one of them has anything to do.
+    pub fn run(&mut self, alloc: Global) -> Result<(), NoMemory>
+        requires { IsRunning self.old }
+        ensures { OnOk result (Turned self.old self.new 0) }
+    {
         while self.turn(alloc)? {}
         Ok(())
     }
 
-    // One poll of each thread. Answers whether one of them worked.
-    fn turn(&mut self, alloc: Global) -> Result<bool, NoMemory> {
-        let app = self.poll_app()?;
-        let client = self.poll_client(alloc)?;
-        let owner = self.poll_owner(alloc)?;
-        Ok(app || client || owner)
+    // One poll of each thread, in order. Answers whether one of them worked.
+    fn turn(&mut self, alloc: Global) -> Result<bool, NoMemory>
+        requires { IsRunning self.old }
+        ensures { IfOk result (λ worked. Turned self.old self.new (cond worked 1 0)) }
+    {
+        let mut worked = self.run_app()?;
+        worked |= self.tick_app()?;
+        worked |= self.run_client()?;
+        worked |= self.tick_client(alloc)?;
+        worked |= self.run_owner(alloc)?;
+        Ok(worked)
     }
 
-    fn poll_app(&mut self) -> Result<bool, NoMemory> {
-        let batch = batch_of(&self.to_app);
-        for _ in 0..batch {
-            if let Some(mail) = self.to_app.take()? {
-                self.app.run(&mail);
-            }
+    fn run_app(&mut self) -> Result<bool, NoMemory>
+        requires { IsRunning self.old }
+        ensures { IfOk result (λ worked. Turned self.old self.new (cond worked 1 0)) }
+    {
+        let mut worked = false;
+        for _ in 0..MESSAGES_OF_A_POLL {
+            let Some(mail) = self.posts.app.take()? else {
+                return Ok(worked);
+            };
+            self.app.run(&mail);
+            worked = true;
         }
-        self.acts.begin(self.to_app.ran());
+        Ok(worked)
+    }
+
+    fn tick_app(&mut self) -> Result<bool, NoMemory>
+        requires { IsRunning self.old }
+        ensures { IfOk result (λ worked. Turned self.old self.new (cond worked 1 0)) }
+    {
+        self.acts.begin(self.posts.app.ran());
         let worked = self.app.tick(&mut self.devices, &mut self.acts)?;
-        self.carry(APP)?;
-        Ok(batch > 0 || worked)
+        self.posts.carry(APP, &mut self.acts)?;
+        Ok(worked)
     }
 
-    fn poll_client(&mut self, alloc: Global) -> Result<bool, NoMemory> {
-        let batch = batch_of(&self.to_client);
-        for _ in 0..batch {
-            if let Some(mail) = self.to_client.take()? {
-                self.client.run(mail, &mut self.devices)?;
-            }
+    fn run_client(&mut self) -> Result<bool, NoMemory>
+        requires { IsRunning self.old }
+        ensures { IfOk result (λ worked. Turned self.old self.new (cond worked 1 0)) }
+    {
+        let mut worked = false;
+        for _ in 0..MESSAGES_OF_A_POLL {
+            let Some(mail) = self.posts.client.take()? else {
+                return Ok(worked);
+            };
+            self.client.run(mail, &mut self.devices)?;
+            worked = true;
         }
-        self.acts.begin(self.to_client.ran());
+        Ok(worked)
+    }
+
+    fn tick_client(&mut self, alloc: Global) -> Result<bool, NoMemory>
+        requires { IsRunning self.old }
+        ensures { IfOk result (λ worked. Turned self.old self.new (cond worked 1 0)) }
+    {
+        self.acts.begin(self.posts.client.ran());
         let worked = self.client.tick(alloc, &mut self.devices, &mut self.acts)?;
-        self.carry(CLIENT)?;
-        Ok(batch > 0 || worked)
+        self.posts.carry(CLIENT, &mut self.acts)?;
+        Ok(worked)
     }
 
-    fn poll_owner(&mut self, alloc: Global) -> Result<bool, NoMemory> {
-        let batch = batch_of(&self.to_owner);
-        for _ in 0..batch {
-            if let Some(mail) = self.to_owner.take()? {
-                self.owner.run(alloc, mail, &mut self.acts)?;
-                self.carry(OWNER)?;
+    fn run_owner(&mut self, alloc: Global) -> Result<bool, NoMemory>
+        requires { IsRunning self.old }
+        ensures { IfOk result (λ worked. Turned self.old self.new (cond worked 1 0)) }
+    {
+        let mut worked = false;
+        for _ in 0..MESSAGES_OF_A_POLL {
+            if !self.run_owner_once(alloc)? {
+                return Ok(worked);
             }
+            worked = true;
         }
-        Ok(batch > 0)
+        Ok(worked)
     }
 
-    // Makes the sends that a thread asked for, in order.
-    fn carry(&mut self, sender: u32) -> Result<(), NoMemory> {
-        while let Some(send) = self.acts.next() {
-            self.deliver(sender, send)?;
-        }
-        Ok(())
-    }
-
-    fn deliver(&mut self, sender: u32, send: Send) -> Result<(), NoMemory> {
-        match send.to {
-            APP => self.to_app.push(sender, send),
-            CLIENT => self.to_client.push(sender, send),
-            _ => self.to_owner.push(sender, send),
-        }
-    }
-}
-
-fn batch_of(post: &Post) -> usize {
-    if post.len() > MESSAGES_OF_A_POLL {
-        MESSAGES_OF_A_POLL
-    } else {
-        post.len()
+    // Runs the owner's next message, and carries its reply before the one after it.
+    fn run_owner_once(&mut self, alloc: Global) -> Result<bool, NoMemory>
+        requires { IsRunning self.old }
+        ensures { IfOk result (λ worked. Turned self.old self.new (cond worked 1 0)) }
+    {
+        let Some(mail) = self.posts.owner.take()? else {
+            return Ok(false);
+        };
+        self.acts.begin(self.posts.owner.ran());
+        self.owner.run(alloc, mail, &mut self.acts)?;
+        self.posts.carry(OWNER, &mut self.acts)?;
+        Ok(true)
     }
 }
