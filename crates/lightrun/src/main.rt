@@ -20,9 +20,8 @@ use finish::Finish;
 use lw_base::{NoMemory, OpenGate};
 use program::lightrun;
 use std::alloc::Global;
-use std::env;
-use std::io;
 use std::process::ExitCode;
+use std::{env, io};
 
 // The words of the command line behind the program's name. A word that isn't text is none of the command table.
 fn words_of<R: env::Env + Alloc<A = Global>>(rt: &R) -> Result<Vec<String>, Fault> {

@@ -36,7 +36,7 @@ pub fn lightrun<I: Source, O: Sink, C: Clock + Drop, G: Gate, R>(
     ensures read_fault { result.status ≡ 3 → IsReadFault (I.faults input.old) (I.faults input.new) result.fault }
     ensures write_fault { result.status ≡ 4
         → IsCutShort (I.left input.old) (I.left input.new) (O.holds out.old) (O.holds out.new)
-            (O.faults out.old) (O.faults out.new) result.fault result.told }
+        (O.faults out.old) (O.faults out.new) result.fault result.told }
     ensures unwritten { result.status ≢ 0 → result.status ≢ 4 → (result.told ≡ None) × (out.new ≡ out.old) }
     ensures statuses { result.status ≤ 5 }
     ensures complete { (left : List ℕ) → IsSome (command_of (map string_bytes words.now)) → I.left input.old ≡ Some left
@@ -58,11 +58,16 @@ fn obey<I: Source, O: Sink>(
     out: &mut O,
 ) -> Finish
     ensures { Ends (record {
-        left = I.left input.old; left_after = I.left input.new;
-        read_faults = I.faults input.old; read_faults_after = I.faults input.new;
-        held = O.holds out.old; held_after = O.holds out.new;
-        write_faults = O.faults out.old; write_faults_after = O.faults out.new;
-        untouched = out.new ≡ out.old }) (input.new ≡ input.old) command result.fault result.told }
+      left = I.left input.old;
+      left_after = I.left input.new;
+      read_faults = I.faults input.old;
+      read_faults_after = I.faults input.new;
+      held = O.holds out.old;
+      held_after = O.holds out.new;
+      write_faults = O.faults out.old;
+      write_faults_after = O.faults out.new;
+      untouched = out.new ≡ out.old;
+    }) (input.new ≡ input.old) command result.fault result.told }
 {
     match command {
         Some(Command::Run) => run(alloc, input, out),

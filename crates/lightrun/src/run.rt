@@ -23,11 +23,16 @@ const SCRIPT_LIMIT: usize = 16_777_216;
 /// Reads a script, runs it and writes the report. The text is made whole before its first write.
 pub fn run<I: Source, O: Sink>(alloc: Global, input: &mut I, out: &mut O) -> Finish
     ensures { EndsRun (record {
-        left = I.left input.old; left_after = I.left input.new;
-        read_faults = I.faults input.old; read_faults_after = I.faults input.new;
-        held = O.holds out.old; held_after = O.holds out.new;
-        write_faults = O.faults out.old; write_faults_after = O.faults out.new;
-        untouched = out.new ≡ out.old }) result.fault result.told }
+      left = I.left input.old;
+      left_after = I.left input.new;
+      read_faults = I.faults input.old;
+      read_faults_after = I.faults input.new;
+      held = O.holds out.old;
+      held_after = O.holds out.new;
+      write_faults = O.faults out.old;
+      write_faults_after = O.faults out.new;
+      untouched = out.new ≡ out.old;
+    }) result.fault result.told }
 {
     match read_and_run(alloc, input) {
         Ok(record) => report(alloc, record, out),

@@ -7,9 +7,11 @@ use lw_base::{ListClock, MemSink, MemSource, NoMemory, OpenGate};
 use std::alloc::Global;
 use std::test::Fail;
 
-const FIRST: &str = "{\"version\":1,\"images\":[{\"name\":\"m\",\"block\":16,\"blocks\":4}],\"clients\":[{\"name\":\"a\",\"depth\":4,\"ops\":[[\"get\",\"m\"],[\"write\",\"m\",0,1,\"ab\"],[\"read\",\"m\",0,1],[\"put\",\"m\"]]}],\"pool\":{\"small\":4,\"large\":1}}";
+const FIRST: &str =
+    "{\"version\":1,\"images\":[{\"name\":\"m\",\"block\":16,\"blocks\":4}],\"clients\":[{\"name\":\"a\",\"depth\":4,\"ops\":[[\"get\",\"m\"],[\"write\",\"m\",0,1,\"ab\"],[\"read\",\"m\",0,1],[\"put\",\"m\"]]}],\"pool\":{\"small\":4,\"large\":1}}";
 
-const REPORT: &str = "lightrun report 1\nscheduler static\nreactors 1\nperiod 1000000\npool 4 1\nimages 1\nimage m 16 4\nclients 1\nclient a 4 4\nop get 0\nop write 0 0 1 ab\nop read 0 0 1\nop put 0\nthread 0 app 0\nran 1 0 done\ndid 1 0 began 1\ncalled 1 0\nthread 1 client 0\nran 2 0 reply 1\nran 2 1 reply 2\nran 1 0 putself 0\ndid 0 0 given 0\ndid 0 1 sent\ndid 0 2 sent\ndid 2 3 deferred\ndid 2 4 closed\nreply 1 ok\nreply 2 bytes abababababababababababababababab\nthread 2 owner 0\nran 1 0 request 1\nran 1 1 request 2\nran 0 0 stop\ndevice 0 1 0 1\nhome 4 1\nend\n";
+const REPORT: &str =
+    "lightrun report 1\nscheduler static\nreactors 1\nperiod 1000000\npool 4 1\nimages 1\nimage m 16 4\nclients 1\nclient a 4 4\nop get 0\nop write 0 0 1 ab\nop read 0 0 1\nop put 0\nthread 0 app 0\nran 1 0 done\ndid 1 0 began 1\ncalled 1 0\nthread 1 client 0\nran 2 0 reply 1\nran 2 1 reply 2\nran 1 0 putself 0\ndid 0 0 given 0\ndid 0 1 sent\ndid 0 2 sent\ndid 2 3 deferred\ndid 2 4 closed\nreply 1 ok\nreply 2 bytes abababababababababababababababab\nthread 2 owner 0\nran 1 0 request 1\nran 1 1 request 2\nran 0 0 stop\ndevice 0 1 0 1\nhome 4 1\nend\n";
 
 // An end, and what the sink took.
 #[derive(Drop)]
@@ -60,7 +62,13 @@ fn run_of(alloc: Global, text: &str, piece: usize) -> Result<Ended, NoMemory>
     requires { 1 ≤ piece }
 {
     let bytes = String::from_str(alloc, text)?.into_bytes();
-    end_of(alloc, words(alloc, "run")?.as_slice(), bytes, piece, (u64::MAX, u64::MAX))
+    end_of(
+        alloc,
+        words(alloc, "run")?.as_slice(),
+        bytes,
+        piece,
+        (u64::MAX, u64::MAX),
+    )
 }
 
 #[test]
@@ -93,8 +101,17 @@ fn faults_of_the_outside_are_told(rt: HostRuntime) -> Result<(), Fail> {
 fn other_words_are_usage(rt: HostRuntime) -> Result<(), Fail> {
     let alloc = rt.alloc();
     for word in ["", "Run", "--help", "check"] {
-        let none = end_of(alloc, words(alloc, word)?.as_slice(), Vec::new(alloc), 1, (0, 0))?;
-        assert!(rt; none.finish.status == 1 && none.written.is_empty(), "at {word}");
+        let none = end_of(
+            alloc,
+            words(alloc, word)?.as_slice(),
+            Vec::new(alloc),
+            1,
+            (0, 0),
+        )?;
+        assert!(rt;
+            none.finish.status == 1 && none.written.is_empty(),
+            "at {word}"
+        );
     }
     let none = end_of(alloc, &[], Vec::new(alloc), 1, (0, 0))?;
     assert!(rt; none.finish.status == 1);

@@ -5,7 +5,8 @@ ghost use Rattle.lw_model.specs.ReportText.{client_line, result_words, round_lin
 use crate::printed::{Printed, push_all};
 use lw_base::{Mark, Tag, What};
 use lw_model::{
-    Answer, Called, ClientOf, Did, Hop, ImageOf, Op, Order, Replied, Reply, Round, Row, Seen, SeenBy,
+    Answer, Called, ClientOf, Did, Hop, ImageOf, Op, Order, Replied, Reply, Round, Row, Seen,
+    SeenBy,
 };
 use std::alloc::{AllocError, Global};
 

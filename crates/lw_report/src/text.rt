@@ -4,8 +4,8 @@ ghost use Rattle.lw_model.specs.ReportText.{text_of, head_lines, image_line, cli
 
 use crate::printed::push_all;
 use crate::threads::{push_devices, push_threads};
-use lw_model::{ClientOf, Home, ImageOf, Record, Scheduler, Span};
 use lw_base::NoMemory;
+use lw_model::{ClientOf, Home, ImageOf, Record, Scheduler, Span};
 use std::alloc::{AllocError, Global};
 
 fn scheduler_text(scheduler: Scheduler) -> &'static str

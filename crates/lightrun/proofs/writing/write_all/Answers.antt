@@ -9,7 +9,8 @@ loop-written-preserved g c =
     let told = c.in_ok-written.ensures in
     let text = c.args.text.now in
     let k = c.loop-written.written in
-    let n = c.in_ok-written.field-0 in
-    (omega (arith, inv.0, told.count.1, length-take (length text - k) (drop k text), length-drop k text),
-    taken-next _ _ _ text k n inv.1 told.appended,
-    omega (arith, inv.2, told.steady))
+    let n = c.in_ok-written.field-0 in (
+      omega (arith, inv.0, told.count.1, length-take (length text - k) (drop k text), length-drop k text),
+      taken-next _ _ _ text k n inv.1 told.appended,
+      omega (arith, inv.2, told.steady),
+    )
