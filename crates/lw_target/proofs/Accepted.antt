@@ -1,7 +1,7 @@
 -- What an accepted script of one client on one image says of its image and of the client's ops.
 use Rattle.std.proofs.Common.{ℕ, zero, suc, ◌≡◌, ◌+◌, ◌*◌, ◌≤◌, ◌<◌, Bool, true, false, List, [], ◌∷◌, ◌++◌, Option, Some, None, length, get_or, arith, refl, sym, ◌∙◌, ap, subst, nat_lt, nat_le}
 use Rattle.std.specs.Prelude.{map, find, option_map, cond, not, sum_by, ◌&&◌, ◌==◌}
-use Rattle.std.specs.List.{All, AllByRecursion, list_all, list_any, enumerate_from}
+use Rattle.std.specs.List.{AllByRecursion, list_all, enumerate_from}
 use Rattle.std.proofs.lemmas.List.Elements.{All-from_recursion}
 use Rattle.std.proofs.lemmas.Bool.{ltb-true, leb-true, eqb-true}
 use Rattle.lw_model.specs.declared.script.Script.{Script}
@@ -9,8 +9,8 @@ use Rattle.lw_model.specs.declared.script.ClientOf.{ClientOf}
 use Rattle.lw_model.specs.declared.script.ImageOf.{ImageOf}
 use Rattle.lw_model.specs.declared.script.Op.{Op}
 use Rattle.lw_model.specs.declared.script.Op.TheVariants as op
-use Rattle.lw_model.specs.declared.refusal.ScriptRefusal.TheVariants.{Limit, Name, Range, Pattern}
-use Rattle.lw_model.specs.ScriptRules.{Placed, placed_ops, with_earlier, first_failing, first_out_of_range, first_bad_pattern, is_in_range, is_in_range_after, is_pattern, is_within, is_among, read_bytes, rule_broken, rule_answers, has_image_sizes, has_block_sizes, has_op_count, has_names, names_an_image, all_ops, is_name, is_distinct}
+use Rattle.lw_model.specs.declared.refusal.ScriptRefusal.TheVariants.{Name, Range, Pattern}
+use Rattle.lw_model.specs.ScriptRules.{Placed, placed_ops, with_earlier, first_failing, first_out_of_range, first_bad_pattern, is_in_range, is_in_range_after, is_pattern, read_bytes, rule_broken, rule_answers, has_names, names_an_image, all_ops}
 use Rattle.lw_model.specs.Served.{is_served, is_basic}
 use Rattle.lw_model.proofs.Rules.{each-none, kept}
 use Rattle.lw_target.specs.Messages.{IsWithin, operands}
@@ -130,9 +130,9 @@ fits_one : (image : ImageOf) (client : ClientOf) (small large : ℕ) → rule_br
 fits_one image client small large e served =
     let s = one image client small large in
     let range = each_op image client small large (is_in_range s) (IsInRange s) (λ before o t. (sum_by (read_bytes s) before, t))
-          (none_mapped (λ p. Range p.client p.place) (first_out_of_range s) (each-none (rule_answers s) 10 _ e refl)) in
+    (none_mapped (λ p. Range p.client p.place) (first_out_of_range s) (each-none (rule_answers s) 10 _ e refl)) in
     let pattern = each_op image client small large (λ _. is_pattern) (λ o. is_pattern o ≡ true) (λ before o t. t)
-          (none_mapped (λ p. Pattern p.client p.place) (first_bad_pattern s) (each-none (rule_answers s) 11 _ e refl)) in
+    (none_mapped (λ p. Pattern p.client p.place) (first_bad_pattern s) (each-none (rule_answers s) 11 _ e refl)) in
     All-from_recursion (λ o. asks_bytes o ≡ true → IsWithin image.blocks (operands o)) client.ops
     (zip_all (λ o. is_servable 1 o ≡ true) (λ o. IsInRange s o × (is_pattern o ≡ true)) (λ o. asks_bytes o ≡ true → IsWithin image.blocks (operands o))
     (λ o n r. within_op image client small large o n r) client.ops (serves_one image client small large e served)

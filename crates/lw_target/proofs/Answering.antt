@@ -1,14 +1,11 @@
 -- A write's answer is that of any request with its operands.
-use Rattle.std.proofs.Common.{◌≡◌, ℕ, List, ◌∷◌, Option, Some, sym, ◌∙◌, ap, refl, subst}
+use Rattle.std.proofs.Common.{◌≡◌, ℕ, List, ◌∷◌, Option, Some, refl}
 use Rattle.lw_model.specs.declared.script.Op.{Op}
 use Rattle.lw_model.specs.declared.script.Op.TheVariants as op
 use Rattle.lw_model.specs.declared.record.Replied.TheVariants as replied
 use Rattle.lw_image.specs.Image.{Contents, IsAfter}
-use Rattle.lw_target.specs.declared.mail.Load.{Load}
 use Rattle.lw_target.specs.declared.mail.Load.TheVariants as load
-use Rattle.lw_target.specs.Messages.{operands}
 use Rattle.lw_target.specs.Owner.{AnswersAs}
-
 
 pub write_answers : (old new : Contents) (start count : ℕ) (pattern : List ℕ)
     → ((d : ℕ) (past : List (Option Op)) → IsAfter old past → IsAfter new (Some (op.Write d start count pattern) ∷ past))

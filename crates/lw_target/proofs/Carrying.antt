@@ -1,15 +1,11 @@
 -- What a delivery leaves of the messages under way.
-use Rattle.std.proofs.Common.{ℕ, ◌≡◌, ◌+◌, List, [], ◌∷◌, ◌++◌, Result, Ok, Err, sym, ◌∙◌, ap, arith, zero-add}
+use Rattle.std.proofs.Common.{ℕ, ◌≡◌, ◌+◌, List, [], ◌∷◌, ◌++◌, Result, Ok, Err, ◌∙◌, ap}
 use Rattle.std.specs.Prelude.{OnOk}
-use Rattle.std.specs.List.{All}
 use Rattle.std.proofs.lemmas.List.Elements.{All-head, All-push, All-same}
 use Rattle.std.proofs.lemmas.List.Sums.{sum_by-cons}
 use Rattle.lw_target.specs.declared.mail.Mail.{Mail}
 use Rattle.lw_target.specs.declared.acts.Outgoing.{Outgoing}
-use Rattle.lw_target.specs.declared.posts.Posts.{Posts}
 use Rattle.lw_target.specs.Messages.{FitsImage, AllFit, AllMayGo, asked_work, waiting_work, weight}
-use Rattle.lw_target.specs.Turns.{Carried, HasSenders, posts_work}
-use Rattle.lw_target.proofs.Mails.{waiting_push}
 
 pub on_ok_all : {A E : Type 0} {P Q R S : Type 0} (r : Result A E) → (P → Q → R → S) → OnOk r P → OnOk r Q → OnOk r R → OnOk r S
 on_ok_all (Ok v) f p q s = f p q s

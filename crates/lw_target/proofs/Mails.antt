@@ -1,13 +1,11 @@
 -- Lists of messages, one message on.
 use Rattle.std.proofs.Common.{arith, zero-add, ◌≡◌, true, List, [], ◌∷◌, ◌++◌, sym, ◌∙◌, ap}
-use Rattle.std.specs.Prelude.{Bool, ◌&&◌, ◌+◌}
-use Rattle.std.proofs.lemmas.List.Sums.{sum_by-append, sum_by-cons}
+use Rattle.std.specs.Prelude.{Bool, ◌+◌}
+use Rattle.std.proofs.lemmas.List.Sums.{sum_by-append}
 use Rattle.lw_target.specs.declared.acts.Outgoing.{Outgoing}
 use Rattle.std.specs.List.{All, list_all}
 use Rattle.std.proofs.lemmas.List.Elements.{All-head, All-rest, All-same}
 use Rattle.std.proofs.lemmas.List.Folds.{list_all-append}
-use Rattle.lw_base.specs.declared.message.Tag.{Tag}
-use Rattle.lw_model.specs.Printable.{has_a_line}
 use Rattle.lw_target.specs.declared.mail.Mail.{Mail}
 use Rattle.lw_target.specs.Messages.{IsPrintable, asked_work, waiting_work, weight}
 

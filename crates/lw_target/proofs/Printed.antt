@@ -1,6 +1,6 @@
 -- A record of the three threads has a text.
-use Rattle.std.proofs.Common.{ℕ, ◌≡◌, ◌+◌, Bool, true, false, List, [], ◌∷◌, ◌++◌, None, length, refl, sym, ◌∙◌, ap, subst, nat_lt, nat_le, eq-eqb}
-use Rattle.std.specs.Prelude.{◌&&◌, ◌==◌, is_none}
+use Rattle.std.proofs.Common.{ℕ, ◌≡◌, ◌+◌, Bool, true, List, [], None, length, refl, sym, ◌∙◌, ap, subst, nat_lt, eq-eqb}
+use Rattle.std.specs.Prelude.{◌&&◌, is_none}
 use Rattle.std.specs.List.{list_all, enumerate_from}
 use Rattle.lw_base.specs.declared.message.Tag.{Tag}
 use Rattle.lw_model.specs.declared.script.Script.{Script}
@@ -47,9 +47,9 @@ threads_printed s threads images clients (app, client, owner, e, a, c, o, none, 
     subst (λ ts. list_all (λ p. is_printable_thread s p.0 p.1) (enumerate_from 0 ts) ≡ true) (sym e)
     (and_both _ _ (thread_printed s 0 App app a images refl (and_both _ _ (ap is_empty none) (ap is_empty a.seen)))
     (and_both _ _ (thread_printed s 1 Client client c images (subst (λ k. has_role k 1 Client ≡ true) (sym clients) refl)
-      (and_both _ _ c.replies (rw (c.seen) refl)))
+    (and_both _ _ c.replies (rw (c.seen) refl)))
     (and_both _ _ (thread_printed s 2 Owner owner o images (subst (λ k. has_role k 2 Owner ≡ true) (sym clients) refl)
-      (and_both _ _ (ap is_empty nothing) (ap is_empty o.seen))) refl)))
+    (and_both _ _ (ap is_empty nothing) (ap is_empty o.seen))) refl)))
 
 pub printed : (s : Script) (threads : List ThreadRecord) (devices : List DeviceEnd) → rule_broken s ≡ None
     → length s.images ≡ 1 → length s.clients ≡ 1 → AreThreads threads → length devices ≡ 1

@@ -1,10 +1,9 @@
 -- Steps of a client, one after the other.
-use Rattle.std.proofs.Common.{ℕ, ◌≡◌, ◌+◌, ◌-◌, ◌*◌, ◌≤◌, ◌<◌, Bool, true, false, List, length, cond, arith, refl, sym, ◌∙◌, ap, subst}
+use Rattle.std.proofs.Common.{ℕ, ◌≡◌, ◌+◌, ◌-◌, ◌*◌, ◌≤◌, ◌<◌, Bool, true, false, List, length, cond, arith, sym, ◌∙◌, ap, subst}
 use Rattle.std.specs.Prelude.{vec_len, ◌||◌}
-use Rattle.lw_model.specs.declared.script.Op.{Op}
 use Rattle.lw_target.specs.declared.acts.Outgoing.{Outgoing}
 use Rattle.lw_target.specs.declared.client.Client.{Client}
-use Rattle.lw_target.specs.Messages.{Asked, asked_work}
+use Rattle.lw_target.specs.Messages.{Asked}
 use Rattle.lw_target.specs.Ops.{AllOfOps}
 use Rattle.lw_target.specs.Work.{client_work}
 use Rattle.lw_target.specs.Client.{Answered, Progress}

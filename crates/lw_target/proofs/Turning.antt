@@ -1,5 +1,5 @@
 -- Polls of the threads.
-use Rattle.std.proofs.Common.{ℕ, ◌≡◌, ◌+◌, ◌≤◌, ◌<◌, true, List, [], ◌∷◌, ◌++◌, Option, Some, get_or, length, arith, refl, sym, ◌∙◌, ap, subst, length-append}
+use Rattle.std.proofs.Common.{ℕ, ◌≡◌, ◌+◌, ◌≤◌, ◌<◌, true, List, [], ◌∷◌, ◌++◌, Some, get_or, length, arith, sym, ◌∙◌, ap, subst, length-append}
 use Rattle.std.specs.Prelude.{vec_len, slice_get}
 use Rattle.std.specs.List.{All}
 use Rattle.std.proofs.lemmas.List.Elements.{All-nil, All-same, All-rest, All-weaker, All-get_or}
@@ -18,7 +18,7 @@ use Rattle.lw_target.specs.Ops.{IsOfOps, AllOfOps, asks_bytes}
 use Rattle.lw_target.specs.App.{Advance, IsStop}
 use Rattle.lw_target.specs.Client.{Progress}
 use Rattle.lw_target.specs.Work.{client_work, app_work}
-use Rattle.lw_target.specs.Turns.{Carried, HasSenders, OpsFit, IsRunning, Turned, posts_work, work}
+use Rattle.lw_target.specs.Turns.{Carried, OpsFit, IsRunning, Turned}
 use Rattle.lw_target.proofs.Carrying.{waiting_first}
 
 -- what holds of each element holds of the one at a place
@@ -68,7 +68,7 @@ client_turned old new before after least r p none carried asked app owner device
         asked = asked;
         ops = subst (λ o. OpsFit o.image.blocks new.client.of.ops) (sym owner) (subst (λ o. OpsFit old.owner.image.blocks o.ops) (sym p.of) r.ops);
         fits = subst (λ o. AllFit o.image.blocks new.posts.owner.waiting) (sym owner)
-          (carried.fits old.owner.image.blocks r.fits (may_go old.owner.image.blocks old.client.of.ops after.sends r.ops sends));
+            (carried.fits old.owner.image.blocks r.fits (may_go old.owner.image.blocks old.client.of.ops after.sends r.ops sends));
         block = subst (λ o. 0 < o.image.block) (sym owner) r.block;
         writes = omega (arith, r.writes, ap (λ o. o.image.writes) owner, ap length carried.ran);
       };
@@ -92,8 +92,8 @@ app_turned old new before after least r p none carried asked client owner device
         asked = asked;
         ops = subst (λ o. OpsFit o.image.blocks new.client.of.ops) (sym owner) (subst (λ c. OpsFit old.owner.image.blocks c.of.ops) (sym client) r.ops);
         fits = subst (λ o. AllFit o.image.blocks new.posts.owner.waiting) (sym owner)
-          (carried.fits old.owner.image.blocks r.fits
-          (All-weaker IsStop (λ (s : Outgoing). FitsImage old.owner.image.blocks s.what s.load) (stop_goes old.owner.image.blocks) after.sends sends));
+            (carried.fits old.owner.image.blocks r.fits
+            (All-weaker IsStop (λ (s : Outgoing). FitsImage old.owner.image.blocks s.what s.load) (stop_goes old.owner.image.blocks) after.sends sends));
         block = subst (λ o. 0 < o.image.block) (sym owner) r.block;
         writes = omega (arith, r.writes, ap (λ o. o.image.writes) owner, ap length carried.ran);
       };
@@ -125,7 +125,7 @@ owner_turned old new taken mail before after r first ran sent app_post client_po
         app_devices = devices ∙ r.app_devices ∙ sym (ap (λ a. vec_len a.owed) app);
         client_devices = devices ∙ r.client_devices ∙ sym (ap (λ c. vec_len c.channels) client);
         senders = carried.senders
-          (ap (λ p. length p.sent) app_post ∙ r.senders.0, ap (λ p. length p.sent) client_post ∙ r.senders.1, ap length sent ∙ r.senders.2);
+            (ap (λ p. length p.sent) app_post ∙ r.senders.0, ap (λ p. length p.sent) client_post ∙ r.senders.1, ap length sent ∙ r.senders.2);
         asked = asked;
         ops = subst (λ b. OpsFit b new.client.of.ops) (sym size.1) (subst (λ c. OpsFit old.owner.image.blocks c.of.ops) (sym client) r.ops);
         fits = subst (λ b. AllFit b new.posts.owner.waiting) (sym size.1) (carried.fits old.owner.image.blocks rest sends);

@@ -1,5 +1,5 @@
 -- What the app does and asks for.
-use Rattle.std.specs.Prelude.{ℕ, ◌≡◌, ◌+◌, ◌≤◌, List, vec_len}
+use Rattle.std.specs.Prelude.{ℕ, ◌≡◌, ◌+◌, ◌≤◌, vec_len}
 use Rattle.std.specs.List.{All}
 use Rattle.lw_base.specs.declared.message.What.TheVariants as what
 use Rattle.lw_target.specs.declared.acts.Outgoing.{Outgoing}

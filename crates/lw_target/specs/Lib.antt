@@ -7,3 +7,4 @@ pub mod Client
 pub mod App
 pub mod Turns
 pub mod Run
+pub mod Sample

@@ -1,5 +1,5 @@
 -- The ops that a client can do, and the requests that it makes of them.
-use Rattle.std.specs.Prelude.{ℕ, ◌≡◌, nat_lt, Bool, true, false, List, Option, Some, slice_get}
+use Rattle.std.specs.Prelude.{ℕ, ◌≡◌, nat_lt, Bool, true, false, List, Some, slice_get}
 use Rattle.std.specs.List.{All}
 use Rattle.lw_base.specs.declared.message.What.TheVariants as what
 use Rattle.lw_model.specs.declared.script.Op.{Op}

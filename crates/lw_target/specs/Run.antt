@@ -1,5 +1,5 @@
 -- The threads of a record of one client on one image.
-use Rattle.std.specs.Prelude.{ℕ, ◌≡◌, true, List, [], ◌∷◌, nat_lt}
+use Rattle.std.specs.Prelude.{◌≡◌, true, List, [], ◌∷◌, nat_lt}
 use Rattle.std.specs.List.{list_all}
 use Rattle.lw_model.specs.declared.record.ThreadRecord.{ThreadRecord}
 use Rattle.lw_model.specs.declared.record.RoleKind.{RoleKind}

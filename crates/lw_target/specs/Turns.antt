@@ -2,7 +2,6 @@
 use Rattle.std.specs.Prelude.{ℕ, ◌≡◌, ◌+◌, ◌≤◌, ◌<◌, true, List, [], length, vec_len}
 use Rattle.std.specs.List.{All}
 use Rattle.lw_model.specs.declared.script.Op.{Op}
-use Rattle.lw_target.specs.declared.mail.Mail.{Mail}
 use Rattle.lw_target.specs.declared.acts.Outgoing.{Outgoing}
 use Rattle.lw_target.specs.declared.posts.Posts.{Posts}
 use Rattle.lw_target.specs.declared.turns.Target.{Target}

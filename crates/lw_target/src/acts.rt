@@ -63,8 +63,9 @@ impl Acts {
     pub fn send(&mut self, to: u32, what: What, load: Load) -> Result<(), NoMemory>
         requires { IsPrintable what load }
         ensures { OnOk result (self.new ≡ record {
-            ran = self.old.ran;
-            sends = self.old.sends ++ record { to = to; what = what; load = load } ∷ [] }) }
+          ran = self.old.ran;
+          sends = self.old.sends ++ record { to = to; what = what; load = load } ∷ [];
+        }) }
     {
         self.sends.push_back(Outgoing { to, what, load })?;
         Ok(())

@@ -6,12 +6,12 @@ ghost use Rattle.lw_model.specs.Printable.{has_bytes};
 ghost use Rattle.lw_target.specs.Messages.{carries_bytes};
 ghost use Rattle.lw_target.specs.Ops.{is_servable, asks_bytes};
 
-use crate::action::{action_of, Action};
+use crate::action::{Action, action_of};
 use crate::acts::Acts;
 use crate::app::APP;
 use crate::channel::Channel;
 use crate::device::Device;
-use crate::mail::{load_of, Load, Mail};
+use crate::mail::{Load, Mail, load_of};
 use lw_base::{NoMemory, What};
 use lw_model::{Answer, ClientOf, Did, Items, Reply};
 use std::alloc::Global;
@@ -58,7 +58,13 @@ impl Client {
     ghost use Rattle.lw_target.specs.Work.{client_work};
 
     /// The client of thread `thread`, before its first op. The owner of device d is thread `first_owner` + d.
-    pub fn new(alloc: Global, thread: u32, first_owner: u32, devices: usize, of: ClientOf) -> Result<Client, NoMemory>
+    pub fn new(
+        alloc: Global,
+        thread: u32,
+        first_owner: u32,
+        devices: usize,
+        of: ClientOf,
+    ) -> Result<Client, NoMemory>
         requires owners { first_owner ≤ 65 }
         requires few { devices ≤ 16 }
         requires short { length of.ops ≤ 100000 }
@@ -143,7 +149,12 @@ impl Client {
     /// Does up to eight of its next ops, stopping at the first that has to wait; behind the last one, with no request
     /// unanswered, gives back what it holds; and once no channel stands tells the app and asks to end. Answers whether
     /// it listed or sent anything.
-    pub fn tick(&mut self, alloc: Global, devices: &mut [Device], acts: &mut Acts) -> Result<bool, NoMemory>
+    pub fn tick(
+        &mut self,
+        alloc: Global,
+        devices: &mut [Device],
+        acts: &mut Acts,
+    ) -> Result<bool, NoMemory>
         requires devices { length devices.old ≡ vec_len self.old.channels }
         ensures { IfOk result (λ worked. Progress self.old self.new acts.old acts.new (cond worked 1 0)) }
     {
@@ -154,7 +165,12 @@ impl Client {
     }
 
     // Does up to eight of its next ops.
-    fn do_some(&mut self, alloc: Global, devices: &mut [Device], acts: &mut Acts) -> Result<bool, NoMemory>
+    fn do_some(
+        &mut self,
+        alloc: Global,
+        devices: &mut [Device],
+        acts: &mut Acts,
+    ) -> Result<bool, NoMemory>
         requires devices { length devices.old ≡ vec_len self.old.channels }
         ensures { IfOk result (λ worked. Progress self.old self.new acts.old acts.new (cond worked 1 0)) }
     {
@@ -198,7 +214,12 @@ impl Client {
     }
 
     // Does the next op, unless there is none or it has to wait. Answers whether it did.
-    fn do_next(&mut self, alloc: Global, devices: &mut [Device], acts: &mut Acts) -> Result<bool, NoMemory>
+    fn do_next(
+        &mut self,
+        alloc: Global,
+        devices: &mut [Device],
+        acts: &mut Acts,
+    ) -> Result<bool, NoMemory>
         requires devices { length devices.old ≡ vec_len self.old.channels }
         ensures { IfOk result (λ worked. Progress self.old self.new acts.old acts.new (cond worked 1 0)) }
     {
@@ -218,7 +239,12 @@ impl Client {
     }
 
     // The answer of the next op, and None where it has to wait.
-    fn answer_next(&mut self, alloc: Global, devices: &mut [Device], acts: &mut Acts) -> Result<Option<Answer>, NoMemory>
+    fn answer_next(
+        &mut self,
+        alloc: Global,
+        devices: &mut [Device],
+        acts: &mut Acts,
+    ) -> Result<Option<Answer>, NoMemory>
         requires devices { length devices.old ≡ vec_len self.old.channels }
         requires more { self.old.next < length self.old.of.ops }
         ensures answered { OnOk result (Answered self.old self.new acts.old acts.new 2) }
@@ -285,7 +311,12 @@ impl Client {
         acts.send(self.thread, What::PutSelf { device: image }, Load::Nothing)
     }
 
-    fn request(&mut self, alloc: Global, image: u32, acts: &mut Acts) -> Result<Option<Answer>, NoMemory>
+    fn request(
+        &mut self,
+        alloc: Global,
+        image: u32,
+        acts: &mut Acts,
+    ) -> Result<Option<Answer>, NoMemory>
         requires image { image < vec_len self.old.channels }
         requires more { self.old.next < length self.old.of.ops }
         requires asks { IfSome (slice_get self.old.of.ops self.old.next) (λ o. asks_bytes o ≡ true) }

@@ -37,7 +37,12 @@ pub fn load_of(alloc: Global, op: &Op) -> Result<Load, NoMemory>
     ensures { IfOk result (λ load. load ≡ operands op.now) }
 {
     match op {
-        Op::Write { start, count, pattern, .. } => Ok(Load::Write {
+        Op::Write {
+            start,
+            count,
+            pattern,
+            ..
+        } => Ok(Load::Write {
             start: *start,
             count: *count,
             pattern: Items::from_vec(Vec::from_slice(alloc, pattern.as_slice())?),

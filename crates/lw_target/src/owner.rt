@@ -25,7 +25,10 @@ impl Owner {
     pub fn new(image: Image) -> Self
         ensures { result ≡ record { image = image; ended = false } }
     {
-        Owner { image, ended: false }
+        Owner {
+            image,
+            ended: false,
+        }
     }
 
     /// Runs a message: a request is answered to its sender at once, and after a stop the owner asks to end.
@@ -64,11 +67,20 @@ impl Owner {
         ensures bytes { IfOk result (λ a. has_bytes a ≡ true) }
     {
         match load {
-            Load::Write { start, count, pattern } => {
+            Load::Write {
+                start,
+                count,
+                pattern,
+            } => {
                 self.image.write(start, count, pattern.as_slice());
                 Ok(Replied::Ok)
             }
-            Load::Read { start, count } => Ok(Replied::Bytes(read(alloc, &self.image, start, count)?)),
+            Load::Read { start, count } => Ok(Replied::Bytes(read(
+                alloc,
+                &self.image,
+                start,
+                count,
+            )?)),
             _ => unreachable!(),
         }
     }

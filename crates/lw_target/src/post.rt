@@ -52,8 +52,9 @@ impl Post {
         requires sender { sender < length self.old.sent }
         requires printable { IsPrintable out.what out.load }
         ensures waiting { OnOk result (self.new.waiting ≡ self.old.waiting ++ record {
-            tag = record { sender = sender; number = slice_index self.old.sent sender; what = out.what };
-            load = out.load } ∷ []) }
+          tag = record { sender = sender; number = slice_index self.old.sent sender; what = out.what };
+          load = out.load;
+        } ∷ []) }
         ensures ran { OnOk result (self.new.ran ≡ self.old.ran) }
         ensures senders { OnOk result (length self.new.sent ≡ length self.old.sent) }
     {
@@ -63,7 +64,10 @@ impl Post {
             number,
             what: out.what,
         };
-        self.waiting.push_back(Mail { tag, load: out.load })?;
+        self.waiting.push_back(Mail {
+            tag,
+            load: out.load,
+        })?;
         self.sent[sender as usize] = number.saturating_add(1);
         Ok(())
     }

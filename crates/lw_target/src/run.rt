@@ -13,11 +13,14 @@ use crate::app::App;
 use crate::client::Client;
 use crate::device::Device;
 use crate::owner::Owner;
-use crate::posts::{Posts, CLIENT, OWNER};
+use crate::posts::{CLIENT, OWNER, Posts};
 use crate::turns::Target;
 use lw_base::{NoMemory, Tag};
 use lw_image::Image;
-use lw_model::{Called, ClientOf, DeviceEnd, Did, Home, ImageOf, Items, Record, Reply, RoleKind, Scheduler, Script, ThreadRecord};
+use lw_model::{
+    Called, ClientOf, DeviceEnd, Did, Home, ImageOf, Items, Record, Reply, RoleKind, Scheduler,
+    Script, ThreadRecord,
+};
 use std::alloc::Global;
 
 /// The period of a run without rounds, in ticks.
@@ -114,9 +117,23 @@ fn end(alloc: Global, target: Target) -> Result<Ended, NoMemory>
     let (did, called) = target.app.into_logs();
     let (of, client_did, replies) = target.client.into_logs();
     let none = Items::new(alloc);
-    let app = thread_record(alloc, RoleKind::App, target.posts.app.into_ran(), did, called, none);
+    let app = thread_record(
+        alloc,
+        RoleKind::App,
+        target.posts.app.into_ran(),
+        did,
+        called,
+        none,
+    );
     let none = Items::new(alloc);
-    let client = thread_record(alloc, RoleKind::Client, target.posts.client.into_ran(), client_did, none, replies);
+    let client = thread_record(
+        alloc,
+        RoleKind::Client,
+        target.posts.client.into_ran(),
+        client_did,
+        none,
+        replies,
+    );
     let owner = owner_record(alloc, target.posts.owner.into_ran());
     let threads = Items::from_vec(vec![in alloc; app, client, owner]?);
     Ok(Ended {
@@ -128,10 +145,25 @@ fn end(alloc: Global, target: Target) -> Result<Ended, NoMemory>
 
 // An owner lists nothing but the messages that it ran.
 fn owner_record(alloc: Global, ran: Items<Tag>) -> ThreadRecord
-    ensures { result ≡ record { role = RoleKind.Owner; home = 0; hops = []; ran = ran; did = []; called = [];
-        replies = []; seen = [] } }
+    ensures { result ≡ record {
+      role = RoleKind.Owner;
+      home = 0;
+      hops = [];
+      ran = ran;
+      did = [];
+      called = [];
+      replies = [];
+      seen = [];
+    } }
 {
-    thread_record(alloc, RoleKind::Owner, ran, Items::new(alloc), Items::new(alloc), Items::new(alloc))
+    thread_record(
+        alloc,
+        RoleKind::Owner,
+        ran,
+        Items::new(alloc),
+        Items::new(alloc),
+        Items::new(alloc),
+    )
 }
 
 // The record of a thread that stayed on reactor 0, and for which no completion came.
@@ -143,8 +175,16 @@ fn thread_record(
     called: Items<Called>,
     replies: Items<Reply>,
 ) -> ThreadRecord
-    ensures { result ≡ record { role = role; home = 0; hops = []; ran = ran; did = did; called = called;
-        replies = replies; seen = [] } }
+    ensures { result ≡ record {
+      role = role;
+      home = 0;
+      hops = [];
+      ran = ran;
+      did = did;
+      called = called;
+      replies = replies;
+      seen = [];
+    } }
 {
     ThreadRecord {
         role,

@@ -2,11 +2,11 @@
 ghost use Rattle.std.specs.Prelude.{◌≡◌, cond, OnOk, IfOk};
 
 use crate::acts::Acts;
-use crate::app::{App, APP};
+use crate::app::{APP, App};
 use crate::client::Client;
 use crate::device::Device;
 use crate::owner::Owner;
-use crate::posts::{Posts, CLIENT, OWNER};
+use crate::posts::{CLIENT, OWNER, Posts};
 use lw_base::NoMemory;
 use std::alloc::Global;
 

@@ -1,4 +1,4 @@
-use Rattle.std.proofs.Common.{◌≡◌, true, length, vec_len}
+use Rattle.std.proofs.Common.{◌≡◌, true, vec_len}
 use Rattle.lw_target.proofs.app.App.begin.Given as goal
 
 abbrev pub invariant-loop-device : goal.invariant-loop-device

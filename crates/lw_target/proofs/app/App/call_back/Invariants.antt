@@ -1,4 +1,4 @@
-use Rattle.std.proofs.Common.{◌≡◌, ◌≤◌, ◌+◌, cond, length, vec_len}
+use Rattle.std.proofs.Common.{◌≡◌, ◌≤◌, ◌+◌, cond, vec_len}
 use Rattle.lw_target.specs.Work.{app_work}
 use Rattle.lw_target.proofs.app.App.call_back.Given as goal
 

@@ -1,4 +1,4 @@
-use Rattle.std.proofs.Common.{◌≡◌, ◌≤◌, ◌+◌}
+use Rattle.std.proofs.Common.{◌≡◌, ◌+◌}
 use Rattle.std.specs.List.{All}
 use Rattle.lw_target.specs.Messages.{asked_work}
 use Rattle.lw_target.specs.App.{IsStop}

@@ -1,4 +1,4 @@
-use Rattle.std.proofs.Common.{cond, ◌≡◌, length}
+use Rattle.std.proofs.Common.{cond}
 use Rattle.lw_target.specs.Client.{Progress}
 use Rattle.lw_target.proofs.client.Client.do_some.Given as goal
 

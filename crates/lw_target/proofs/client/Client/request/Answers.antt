@@ -1,10 +1,9 @@
-use Rattle.std.proofs.Common.{◌≡◌, true, List, Some, ap, sym, ◌∙◌, subst, arith, get_or, length}
+use Rattle.std.proofs.Common.{◌≡◌, true, List, Some, ap, ◌∙◌, subst, arith, get_or}
 use Rattle.std.specs.Prelude.{slice_get, IfSome}
 use Rattle.std.proofs.lemmas.List.Elements.{All-push, All-same}
 use Rattle.std.proofs.lemmas.Option.{slice_get-get_or}
 use Rattle.lw_model.specs.declared.script.Op.{Op}
-use Rattle.lw_target.specs.declared.acts.Outgoing.{Outgoing}
-use Rattle.lw_target.specs.Messages.{operands, asked_work, weight}
+use Rattle.lw_target.specs.Messages.{operands, asked_work}
 use Rattle.lw_target.specs.Ops.{IsOfOps, asks_bytes}
 use Rattle.lw_target.proofs.Mails.{asked_push}
 use Rattle.lw_target.proofs.client.Client.request.Goals as goal
@@ -25,7 +24,7 @@ returns-in_ok-send-in-Sends-clause-answered c =
       channels = c.count_request.ensures.channels;
       ran = ap (λ a. a.ran) sent;
       sends = λ all. All-same (IsOfOps ops) _ _ (ap (λ a. a.sends) sent)
-        (All-push (IsOfOps ops) _ _ all
-        (get_or ops at op, found, subst (λ o. IfSome o (λ p. asks_bytes p ≡ true)) found c.requires.asks, c.in_ok-load-in-Sends.ensures ∙ ap operands same));
+          (All-push (IsOfOps ops) _ _ all
+          (get_or ops at op, found, subst (λ o. IfSome o (λ p. asks_bytes p ≡ true)) found c.requires.asks, c.in_ok-load-in-Sends.ensures ∙ ap operands same));
       work = omega (arith, ap (λ a. asked_work a.sends) sent, asked_push);
     }

@@ -1,4 +1,4 @@
-use Rattle.std.proofs.Common.{◌≡◌, ℕ, List, sym, ◌∙◌, ap, refl, subst}
+use Rattle.std.proofs.Common.{◌≡◌, sym, subst}
 use Rattle.lw_target.specs.Owner.{AnswersAs}
 use Rattle.lw_target.specs.declared.mail.Load.TheVariants as load
 use Rattle.lw_model.specs.declared.record.Replied.TheVariants as replied

@@ -1,4 +1,4 @@
-use Rattle.std.proofs.Common.{◌≡◌, ◌+◌, [], ◌∷◌, ap, arith, refl, ◌∙◌, sym}
+use Rattle.std.proofs.Common.{[], ◌∷◌, arith, refl, ◌∙◌, sym}
 use Rattle.std.proofs.lemmas.List.Elements.{All-head, All-cons, All-nil, All-same, All-rest}
 use Rattle.lw_target.specs.declared.acts.Outgoing.{Outgoing}
 use Rattle.lw_target.specs.Messages.{FitsImage}
@@ -16,9 +16,10 @@ loop-out-preserved c =
       senders = d.senders i.senders;
       work = omega (arith, d.work, i.work, asked_first _ _ out first, asked_first (out ∷ []) [] out refl);
       fits = λ blocks all go.
-        let fit = λ (s : Outgoing). FitsImage blocks s.what s.load in
-        let both = i.fits blocks all go in
-        let mine = All-same fit (out ∷ c.next.new.self.sends) c.loop-out.acts.sends (sym first) both.1 in
-        (d.fits blocks both.0 (All-cons fit out [] (All-head fit out c.next.new.self.sends mine) (All-nil fit)),
-        All-rest fit out c.next.new.self.sends c.loop-out.acts.sends first both.1);
+          let fit = λ (s : Outgoing). FitsImage blocks s.what s.load in
+          let both = i.fits blocks all go in
+          let mine = All-same fit (out ∷ c.next.new.self.sends) c.loop-out.acts.sends (sym first) both.1 in (
+            d.fits blocks both.0 (All-cons fit out [] (All-head fit out c.next.new.self.sends mine) (All-nil fit)),
+            All-rest fit out c.next.new.self.sends c.loop-out.acts.sends first both.1,
+          );
     }

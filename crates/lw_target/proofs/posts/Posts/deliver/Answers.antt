@@ -1,4 +1,4 @@
-use Rattle.std.proofs.Common.{◌≡◌, ◌+◌, [], ◌∷◌, ap, arith, refl, length, ◌∙◌}
+use Rattle.std.proofs.Common.{[], ◌∷◌, ap, arith, refl, ◌∙◌}
 use Rattle.lw_target.specs.Messages.{waiting_work}
 use Rattle.lw_target.proofs.Mails.{waiting_push}
 use Rattle.lw_target.proofs.Carrying.{on_ok_all, owner_fits, asked_first}
