@@ -5,6 +5,7 @@
 
 mod parts;
 mod printed;
+mod read;
 mod text;
 mod threads;
 
@@ -12,4 +13,5 @@ pub use lw_model::{
     Answer, Called, DeviceEnd, Did, Home, Hop, Order, Record, Replied, Reply, RoleKind, Round, Row,
     Scheduler, Seen, SeenBy, Span, ThreadRecord,
 };
+pub use read::{Parsed, read_report};
 pub use text::print;

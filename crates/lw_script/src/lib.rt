@@ -18,3 +18,4 @@ mod value;
 
 pub use lw_model::{ClientOf, ImageOf, Items, Op, Script, ScriptRefusal, Text};
 pub use read::read_script;
+pub use rules::rule_broken;

@@ -1,0 +1,9 @@
+use Rattle.std.proofs.Common.{◌≡◌, ◌+◌, ◌-◌, ◌*◌, min, take, get_or, arith}
+use Rattle.lw_report.specs.LineParts.{value_from}
+use Rattle.lw_report.proofs.Numerals.{value_more}
+use Rattle.lw_report.proofs.read.parts.value_of.Goals as goal
+
+pub loop-byte-preserved : goal.loop-byte-preserved
+loop-byte-preserved c =
+    let more = value_more c.args.digits.now c.loop-byte.byte-index c.loop-byte-test.true in
+    omega (arith, more)

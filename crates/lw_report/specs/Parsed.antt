@@ -1,0 +1,22 @@
+-- What the reading of a report answers.
+use Rattle.std.specs.Prelude.{◌≡◌, ℕ, [], Option, None, Result, Ok, Err}
+use Rattle.lw_model.specs.declared.record.Record.{Record}
+use Rattle.lw_model.specs.declared.record.Scheduler.TheVariants.{Static}
+use Rattle.lw_report.specs.declared.read.contents.Contents.{Contents}
+use Rattle.lw_report.specs.declared.read.parsed.Parsed.{Parsed}
+use Rattle.lw_report.specs.declared.read.parsed.Parsed.TheVariants.{Told, BadLine}
+
+-- the fields of a record that a static run's lines say
+abbrev pub contents_of : Record → Contents
+contents_of r = record { script = r.script; reactors = r.reactors; period = r.period; threads = r.threads; devices = r.devices; home = r.home }
+
+-- a static run's record
+pub record IsStatic (r : Record) : Type 0 where
+  pub scheduler : r.scheduler ≡ Static
+  pub span : r.span ≡ None
+  pub rounds : r.rounds ≡ []
+
+-- a record that says what was read, or the bad line that stopped the reading
+abbrev pub Tells : Parsed → Result Contents ℕ → Type 0
+Tells (Told r) told = (told ≡ Ok (contents_of r)) × IsStatic r
+Tells (BadLine line) told = told ≡ Err line

@@ -1,0 +1,13 @@
+//! A report read back: a machine over lines.
+mod contents;
+mod kinds;
+mod line_kinds;
+mod lines;
+mod parsed;
+mod parts;
+mod report;
+mod script_lines;
+mod sections;
+mod single;
+
+pub use parsed::{Parsed, read_report};
