@@ -13,7 +13,8 @@ continues list calls reading next e n = at (nat_lt next 18446744073709551615) re
     at true q =
         let below : next < 18446744073709551615 = ltb-true next 18446744073709551615 q in
         let one_more : next ≡ suc calls = omega (arith, below, n) in
-        let before : calls < 18446744073709551615 = omega (arith, below, one_more) in
-        (first_readings list calls,
-        ap (λ b. if b then Some (first_readings list calls) else None) (lt-ltb calls 18446744073709551615 before),
-        ap (first_readings list) one_more ∙ ap (λ r. first_readings list calls ++ r ∷ []) (sym e))
+        let before : calls < 18446744073709551615 = omega (arith, below, one_more) in (
+          first_readings list calls,
+          ap (λ b. if b then Some (first_readings list calls) else None) (lt-ltb calls 18446744073709551615 before),
+          ap (first_readings list) one_more ∙ ap (λ r. first_readings list calls ++ r ∷ []) (sym e),
+        )
