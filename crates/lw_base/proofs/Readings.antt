@@ -1,5 +1,5 @@
 -- The readings of a list clock, one call on.
-use Rattle.std.proofs.Common.{◌≡◌, ◌+◌, ◌<◌, ◌≤◌, ◌∷◌, [], ◌++◌, ℕ, suc, List, Bool, true, false, nat_lt, min, arith, refl, ap, sym, ◌∙◌, if◌then◌else◌, Option, Some, None}
+use Rattle.std.proofs.Common.{◌≡◌, ◌+◌, ◌<◌, ◌∷◌, [], ◌++◌, ℕ, suc, List, Bool, true, false, nat_lt, min, arith, refl, ap, sym, ◌∙◌, if◌then◌else◌, Some, None}
 use Rattle.std.proofs.lemmas.Bool.{ltb-true, lt-ltb}
 use Rattle.lw_base.specs.Outside.{Continues}
 use Rattle.lw_base.specs.Memory.{reading_at, first_readings, list_readings}

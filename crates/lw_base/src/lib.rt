@@ -4,6 +4,7 @@
 mod memory;
 mod message;
 mod names;
+mod naming;
 mod outside;
 mod tagged;
 #[cfg(test)]
@@ -12,5 +13,6 @@ mod tests;
 pub use memory::{ListClock, MemSink, MemSource, OpenGate};
 pub use message::{Mark, Tag, What};
 pub use names::{Failed, NoMemory, ReactorId, ThreadId, Tick};
+pub use naming::Naming;
 pub use outside::{Clock, Gate, Sink, Source};
 pub use tagged::Tagged;

@@ -1,0 +1,4 @@
+mod Ending
+mod Reported
+mod Streams
+mod Told

@@ -1,0 +1,5 @@
+pub mod Bytes
+pub mod Words
+pub mod Statuses
+pub mod Runs
+pub mod Program

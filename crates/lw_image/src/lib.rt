@@ -1,0 +1,9 @@
+//! The images that the owners keep: blocks of bytes in memory, in which a write repeats a pattern.
+#![tactic(auto)]
+
+mod fill;
+mod image;
+#[cfg(test)]
+mod tests;
+
+pub use image::Image;

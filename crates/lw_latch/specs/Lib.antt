@@ -1,0 +1,3 @@
+pub mod Totals
+pub mod RingWord
+pub mod RingEnds

@@ -1,0 +1,27 @@
+-- What callers see of the ends of a ring's latch.
+use Rattle.std.specs.Prelude.{◌≡◌, ◌≤◌}
+use Rattle.atomic_table.specs.Seated.{TableId}
+use Rattle.lw_latch.specs.declared.ring_view.RingView.{RingView}
+use Rattle.lw_latch.specs.RingWord.{sender_view}
+
+-- an end: of which latch it is, and what its seat knows
+pub record RingEnd : Type 0 where
+  pub latch : TableId
+  pub view : RingView
+
+-- the view of a sender's seat
+pub record IsSender (v : RingView) : Type 0 where
+  pub one_part : v.parts ≡ 1
+  pub receives_not : v.receives ≡ 0
+  pub closed_not : v.closed ≡ 0
+  pub no_count : v.count ≡ 0
+  pub no_tries : v.tries ≡ 0
+  pub once : v.inside ≤ 1
+
+-- the view of the receiver's seat, with the senders that it has taken in
+abbrev pub IsReceiver : RingView → Type 0
+IsReceiver v = (v.receives ≡ 1) × (v.inside ≡ 0)
+
+-- a sender of a new latch
+abbrev pub new_sender : TableId → RingEnd
+new_sender latch = record { latch = latch; view = sender_view }

@@ -1,0 +1,111 @@
+-- The word of a ring's latch: bits 0 to 15 count the senders inside, bit 16 is the closed bit, and the bits above count
+-- the finished messages.
+use Rattle.std.specs.Prelude.{◌≡◌, ◌≢◌, ℕ, ◌+◌, ◌-◌, ◌*◌, ◌/◌, ◌%◌, ◌≤◌, List, [], ◌∷◌}
+use mathlib.Core.Option.{some}
+use lib.ListN.{get_elem?}
+use Rattle.atomic_table.specs.Table.{State, Me, Step}
+use Rattle.lw_latch.specs.declared.ring_view.RingView.{RingView}
+use Rattle.lw_latch.specs.Totals.{total}
+
+abbrev pub parts : RingView → ℕ
+parts v = v.parts
+
+abbrev pub receives : RingView → ℕ
+receives v = v.receives
+
+abbrev pub inside : RingView → ℕ
+inside v = v.inside
+
+abbrev pub finished : RingView → ℕ
+finished v = v.finished
+
+abbrev pub closed : RingView → ℕ
+closed v = v.closed
+
+abbrev pub count : RingView → ℕ
+count v = v.count
+
+-- the word that the views make
+abbrev pub word_of : List RingView → ℕ
+word_of vs = total inside vs + 65536 * total closed vs + 131072 * total finished vs
+
+-- what the rule says of one view of a latch that `shut` seats have closed
+pub record Fits (shut : ℕ) (v : RingView) : Type 0 where
+  -- only a sender is inside, and it has finished at most 2^40 messages
+  pub inside_parts : v.inside ≤ v.parts
+  pub finished_parts : v.finished ≤ 1099511627776 * v.parts
+  -- only the receiver closes, and only then has a count
+  pub closes : v.closed ≤ v.receives
+  pub counts : v.closed ≡ 0 → v.count ≡ 0
+  -- the latch was found closed only where it is, and who is inside a closed latch has found it closed
+  pub found_closed : shut ≡ 0 → v.found ≡ 0
+  pub inside_found : 1 ≤ shut → 1 ≤ v.inside → 1 ≤ v.found
+
+-- the rule: the word is what the views make, and in a closed latch the finished messages are those it was closed at
+pub record Latched (s : State (Unit {0}) RingView) : Type 0 where
+  pub all_parts : total parts s.views ≡ 127
+  pub one_receiver : total receives s.views ≡ 1
+  pub word : s.words ≡ word_of s.views ∷ []
+  pub settled : 1 ≤ total closed s.views → total finished s.views ≡ total count s.views
+  pub each : (i : ℕ) (v : RingView) → get_elem? s.views i ≡ some v → Fits (total closed s.views) v
+
+-- a new latch's one view
+abbrev pub first_view : RingView
+first_view = record { parts = 127; receives = 1; inside = 0; finished = 0; found = 0; closed = 0; count = 0; tries = 0; seen = 0 }
+
+-- the view of a seat that was joined away
+abbrev pub spent_view : RingView
+spent_view = record { parts = 0; receives = 0; inside = 0; finished = 0; found = 0; closed = 0; count = 0; tries = 0; seen = 0 }
+
+-- a new sender's
+abbrev pub sender_view : RingView
+sender_view = record { parts = 1; receives = 0; inside = 0; finished = 0; found = 0; closed = 0; count = 0; tries = 0; seen = 0 }
+
+-- the receiver's once one more sender is split off
+abbrev pub less_one_part : RingView → RingView
+less_one_part v = record v { parts = v.parts - 1 }
+
+-- what two seats know together
+abbrev pub joined : RingView → RingView → RingView
+joined v w = record {
+  parts = v.parts + w.parts;
+  receives = v.receives + w.receives;
+  inside = v.inside + w.inside;
+  finished = v.finished + w.finished;
+  found = v.found + w.found;
+  closed = v.closed + w.closed;
+  count = v.count + w.count;
+  tries = v.tries + w.tries;
+  seen = v.seen;
+}
+
+-- 1 where the word has the closed bit, else 0
+abbrev pub closed_bit : ℕ → ℕ
+closed_bit word = word / 65536 % 2
+
+-- a seat: its view, and the slots that it holds, none here
+abbrev Sat : Type 0
+Sat = Me (Unit {0}) RingView
+
+-- What each kind of step tells, of the seat before it, the word that it found and the seat after it.
+
+abbrev pub Enters : Step (Unit {0}) → Sat → ℕ → Sat → Type 0
+Enters step old word new =
+    (new ≡ (record old.0 { inside = 1; found = old.0.found + closed_bit word }, old.1)) × (closed_bit word ≡ 0 → old.0.found ≡ 0)
+
+abbrev pub Leaves : Step (Unit {0}) → Sat → ℕ → Sat → Type 0
+Leaves step old word new = new ≡ (record old.0 { inside = 0 }, old.1)
+
+abbrev pub Finishes : Step (Unit {0}) → Sat → ℕ → Sat → Type 0
+Finishes step old word new = new ≡ (record old.0 { inside = 0; finished = old.0.finished + 1 }, old.1)
+
+abbrev pub TriesToClose : Step (Unit {0}) → Sat → ℕ → Sat → Type 0
+TriesToClose step old word new =
+    (word ≡ step.first → new ≡ (record old.0 { closed = 1; count = step.first / 131072 }, old.1))
+    × (word ≢ step.first → new ≡ (record old.0 { tries = old.0.tries + 1; seen = word }, old.1))
+
+-- a seat that has all parts learns that the word is its own, and what follows from the closed bit
+abbrev pub Learns : Step (Unit {0}) → Sat → ℕ → Sat → Type 0
+Learns step old word new =
+    (new ≡ old)
+    × (old.0.parts ≡ 127 → old.0.receives ≡ 1 → (word ≡ word_of (old.0 ∷ [])) × (1 ≤ old.0.closed → old.0.finished ≡ old.0.count) × (1 ≤ old.0.found → old.0.closed ≡ 1))

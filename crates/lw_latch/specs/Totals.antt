@@ -1,0 +1,7 @@
+-- Sums over the views of a table.
+use Rattle.std.specs.Prelude.{ℕ, ◌+◌, List, [], ◌∷◌}
+
+-- f of each view, added up
+abbrev pub total : {V : Type 0} → (V → ℕ) → List V → ℕ
+total f [] = 0
+total f (v ∷ vs) = f v + total f vs

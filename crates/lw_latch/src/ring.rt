@@ -1,0 +1,214 @@
+//! The latch of a ring: any number of senders up to 127, and one receiver that closes it.
+ghost use Rattle.std.specs.Prelude.{◌≡◌, ◌≢◌, ℕ, ◌+◌, ◌-◌, ◌*◌, ◌^◌, ◌<◌, ◌≤◌, length, All, IfOk};
+ghost use Rattle.lw_latch.specs.RingWord.{first_view, sender_view, joined};
+ghost use Rattle.lw_latch.specs.RingEnds.{IsSender, new_sender};
+
+use crate::ring_view::{
+    Entering, Finishing, Leaving, Looking, RingTable, RingView, Seats, Shutting,
+};
+use atomic_table::Seat;
+use lw_base::NoMemory;
+use std::alloc::Global;
+use std::marker::Model;
+use std::sync::Arc;
+
+/// The closed bit. Below it the word counts the senders inside.
+const CLOSED: u64 = 65_536;
+
+/// One finished message, in the bits above the closed bit.
+const FINISHED: u64 = 131_072;
+
+/// What `enter` found.
+#[derive(Clone, Copy, PartialEq, Eq, Debug)]
+pub enum Enter {
+    /// The latch was open, and this sender is inside.
+    Inside,
+    /// The latch was closed, and this sender is outside.
+    Closed,
+}
+
+/// What `close` found.
+#[derive(Clone, Copy, PartialEq, Eq, Debug)]
+pub enum Closing {
+    /// Nobody was inside and every finished message was taken. The latch is closed.
+    Closed,
+    /// The word was `seen`: somebody was inside, or there were more finished messages than were taken.
+    NotYet { seen: u64 },
+}
+
+/// A sender's seat.
+#[derive(Drop)]
+pub struct LatchSend {
+    table: Arc<RingTable, Global>,
+    seat: Seat<(), RingView>,
+}
+
+impl Model for LatchSend {
+    ghost use Rattle.lw_latch.specs.RingEnds.{RingEnd, IsSender};
+    ghost use Rattle.std.specs.Prelude.{◌≡◌, []};
+    ghost use Rattle.std.specs.Arc.{arc_value};
+
+    ghost Value = { RingEnd };
+
+    ghost view = { λ s. record { latch = s.seat.table_id; view = s.seat.me.0 } };
+
+    ghost invariant = { λ s.
+        (s.seat.table_id ≡ (arc_value s.table).shared.table_id)
+        × (s.seat.table_id.words ≡ 1)
+        × (s.seat.me.1 ≡ [])
+        × IsSender s.seat.me.0 };
+}
+
+/// The receiver's seat.
+#[derive(Drop)]
+pub struct LatchRecv {
+    table: Arc<RingTable, Global>,
+    seat: Seat<(), RingView>,
+}
+
+impl Model for LatchRecv {
+    ghost use Rattle.lw_latch.specs.RingEnds.{RingEnd, IsReceiver};
+    ghost use Rattle.std.specs.Prelude.{◌≡◌, []};
+    ghost use Rattle.std.specs.Arc.{arc_value};
+
+    ghost Value = { RingEnd };
+
+    ghost view = { λ s. record { latch = s.seat.table_id; view = s.seat.me.0 } };
+
+    ghost invariant = { λ s.
+        (s.seat.table_id ≡ (arc_value s.table).shared.table_id)
+        × (s.seat.table_id.words ≡ 1)
+        × (s.seat.me.1 ≡ [])
+        × IsReceiver s.seat.me.0 };
+}
+
+impl LatchSend {
+    /// Gets inside, in one step, unless the latch is closed.
+    ///
+    /// A sender that finds it closed takes its count back in a second step. Between the two it counts as inside, but
+    /// a closed latch stays closed. `Closed` comes only where this call's own step found the closed bit.
+    pub fn enter(&mut self) -> Enter
+        requires { self.old.view.inside ≡ 0 }
+        ensures inside { result ≡ Enter.Inside →
+            (self.new ≡ record self.old { view = record self.old.view { inside = 1 } }) × (self.old.view.found ≡ 0) }
+        ensures closed { result ≡ Enter.Closed →
+            self.new ≡ record self.old { view = record self.old.view { found = self.old.view.found + 1 } } }
+    {
+        let found = self
+            .table
+            .shared
+            .fetch_add::<Entering>(&mut self.seat, 0, 1);
+        if found / CLOSED % 2 == 0 {
+            return Enter::Inside;
+        }
+        self.table.shared.fetch_sub::<Leaving>(&mut self.seat, 0, 1);
+        Enter::Closed
+    }
+
+    /// Gets out with one more message finished, in one step.
+    pub fn finish(&mut self)
+        requires inside { (self.old.view.inside ≡ 1) × (self.old.view.found ≡ 0) }
+        requires room { self.old.view.finished < 2 ^ 40 }
+        ensures { self.new ≡ record self.old {
+          view =
+              record self.old.view { inside = 0; finished = self.old.view.finished + 1 };
+        } }
+    {
+        self.table
+            .shared
+            .fetch_add::<Finishing>(&mut self.seat, 0, FINISHED - 1);
+    }
+
+    /// Gets out with nothing finished, in one step.
+    pub fn cancel(&mut self)
+        requires { self.old.view.inside ≡ 1 }
+        ensures { self.new ≡ record self.old { view = record self.old.view { inside = 0 } } }
+    {
+        self.table.shared.fetch_sub::<Leaving>(&mut self.seat, 0, 1);
+    }
+}
+
+impl LatchRecv {
+    /// Closes the latch, in one step, if nobody is inside and `taken` messages are finished.
+    ///
+    /// `NotYet` comes exactly where the word was another one.
+    pub fn close(&mut self, taken: u64) -> Closing
+        requires open { self.old.view.closed ≡ 0 }
+        requires taken { taken < 2 ^ 47 }
+        ensures closed { result ≡ Closing.Closed →
+            self.new ≡ record self.old { view = record self.old.view { closed = 1; count = taken } } }
+        ensures not_yet { (seen : ℕ) → result ≡ Closing.NotYet seen →
+            (self.new ≡ record self.old {
+              view =
+                  record self.old.view { tries = self.old.view.tries + 1; seen = seen };
+            })
+            × (seen ≢ taken * 2 ^ 17) }
+    {
+        let all_taken = taken * FINISHED;
+        let seen = self
+            .table
+            .shared
+            .compare_exchange::<Shutting>(&mut self.seat, 0, all_taken, all_taken + CLOSED);
+        if seen == all_taken {
+            Closing::Closed
+        } else {
+            Closing::NotYet { seen }
+        }
+    }
+
+    /// Takes a sender's seat in. From then on this seat knows what the sender's knew.
+    pub fn take_in(&mut self, other: LatchSend)
+        requires latch { other.latch ≡ self.old.latch }
+        requires outside { other.view.inside ≡ 0 }
+        ensures joined { self.new ≡ record self.old { view = joined self.old.view other.view } }
+        ensures sender { IsSender other.view }
+    {
+        let LatchSend { table: _, seat } = other;
+        self.table.shared.join_seat::<Seats>(&mut self.seat, seat);
+    }
+
+    /// The word, which with all senders taken in is this seat's own. It is one load.
+    ///
+    /// Where the latch is closed, what all senders finished is what it was closed at. Where one of them found it
+    /// closed, it is.
+    pub fn learn(&mut self) -> u64
+        requires { self.old.view.parts ≡ 127 }
+        ensures same { self.new ≡ self.old }
+        ensures word { result ≡ 65536 * self.old.view.closed + 131072 * self.old.view.finished }
+        ensures settled { 1 ≤ self.old.view.closed → self.old.view.finished ≡ self.old.view.count }
+        ensures found { 1 ≤ self.old.view.found → self.old.view.closed ≡ 1 }
+    {
+        self.table.shared.load::<Looking>(&mut self.seat, 0)
+    }
+
+    // One more sender's seat.
+    fn split(&mut self) -> Result<LatchSend, NoMemory>
+        requires { (1 ≤ self.old.view.parts) × (self.old.view.finished ≡ 0) }
+        ensures sender { IfOk result (λ s. s ≡ new_sender self.old.latch) }
+        ensures rest { IfOk result (λ s.
+            self.new ≡ record self.old { view = record self.old.view { parts = self.old.view.parts - 1 } }) }
+    {
+        let table = Arc::try_clone(&self.table)?;
+        let seat = self.table.shared.split_seat::<Seats>(&mut self.seat);
+        Ok(LatchSend { table, seat })
+    }
+}
+
+/// A new latch with its ends, open and with nobody inside.
+pub fn ring_latch(alloc: Global, senders: u32) -> Result<(LatchRecv, Vec<LatchSend>), NoMemory>
+    requires { (1 ≤ senders) × (senders ≤ 127) }
+    ensures recv { IfOk result (λ r. r.0.view ≡ record first_view { parts = 127 - senders }) }
+    ensures count { IfOk result (λ r. length r.1.items ≡ senders) }
+    ensures ends { IfOk result (λ r. All (λ s. s ≡ new_sender r.0.latch) r.1.items) }
+{
+    let (table, seat) = RingTable::of_words(alloc, &[0], &())?;
+    let mut recv = LatchRecv {
+        table: Arc::new(alloc, table)?,
+        seat,
+    };
+    let mut ends = Vec::new(alloc);
+    for _ in 0..senders {
+        ends.push(recv.split()?)?;
+    }
+    Ok((recv, ends))
+}

@@ -1,0 +1,13 @@
+use Rattle.std.proofs.Common.{◌≡◌, ◌<◌, ◌≤◌, ◌++◌, length, map, vec_capacity}
+use Rattle.crossbeam_queue.specs.SegTies.{IsSegPassOf}
+use Rattle.lw_ring.specs.Calls.{AllFit}
+use Rattle.lw_ring.proofs.recv.fill.Given as goal
+
+abbrev pub invariant-loop : goal.invariant-loop
+invariant-loop g l =
+    IsSegPassOf l.queue l.pass
+    × (l.pass.me.view.client ≡ record l.initial.pass.me.view.client { got = l.initial.pass.me.view.client.got ++ map g.T.Tagged.letter l.batch.items })
+    × AllFit g.T.Tagged.letter g.T.Tagged.tag_of g.T.Tagged.fits l.initial.pass.me.view.client.number l.initial.pass.me.view.client.family l.initial.pass.me.view.client.made l.batch.items
+    × (length l.batch.items ≡ l.counter)
+    × (l.initial.max ≤ vec_capacity l.batch)
+    × (length l.pass.me.view.client.got < 140737488355328)

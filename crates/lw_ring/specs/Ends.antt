@@ -1,0 +1,96 @@
+-- What callers see of the ends of a ring.
+use Rattle.std.specs.Prelude.{◌≡◌, ℕ, ◌+◌, true, false, List, [], length, Option, Some, None}
+use Rattle.std.specs.declared.alloc.Global.{Global}
+use Rattle.atomic_table.specs.Seated.{TableId}
+use Rattle.crossbeam_queue.specs.SegTies.{SegId}
+use Rattle.lw_latch.specs.RingEnds.{RingEnd}
+use Rattle.lw_ring.specs.declared.queue.PassView.{PassView}
+
+-- a sending end
+pub record Sender (L F : Type 0) : Type 0 where
+  -- the ring, by its queue and its latch, if it has one
+  pub queue : SegId Global
+  pub latch : Option TableId
+  -- the ring's number and family
+  pub number : ℕ
+  pub family : Option F
+  -- the end's own number, what it has sent, and how often it has found the ring closed
+  pub sender : ℕ
+  pub sent : List L
+  pub found : ℕ
+
+-- the receiving end
+pub record Receiver (L F : Type 0) : Type 0 where
+  -- the ring, by its queue and its latch, if it has one
+  pub queue : SegId Global
+  pub latch : Option TableId
+  -- the ring's number and family, and how many senders it has
+  pub number : ℕ
+  pub family : Option F
+  pub senders : ℕ
+  -- what it has taken
+  pub taken : List L
+  -- whether it has closed the ring (1) or not (0), how often it has tried to in vain, and the word that it found last
+  pub closed : ℕ
+  pub tries : ℕ
+  pub seen : ℕ
+  -- of the ends that it has taken in: what each had sent, and how often they had found the ring closed
+  pub known : List (List L)
+  pub found : ℕ
+
+-- What a seat of the latch tells; nothing, and 0, where the ring has none.
+
+abbrev pub latch_id : Option RingEnd → Option TableId
+latch_id None = None
+latch_id (Some e) = Some e.latch
+
+abbrev pub found_of : Option RingEnd → ℕ
+found_of None = 0
+found_of (Some e) = e.view.found
+
+abbrev pub closed_of : Option RingEnd → ℕ
+closed_of None = 0
+closed_of (Some e) = e.view.closed
+
+abbrev pub tries_of : Option RingEnd → ℕ
+tries_of None = 0
+tries_of (Some e) = e.view.tries
+
+abbrev pub seen_of : Option RingEnd → ℕ
+seen_of None = 0
+seen_of (Some e) = e.view.seen
+
+-- where the ring has a latch, the end is outside it and has finished n
+abbrev pub Outside : Option RingEnd → ℕ → Type 0
+Outside None n = Unit {0}
+Outside (Some e) n = (e.view.inside ≡ 0) × (e.view.finished ≡ n)
+
+-- the same of an end that is inside, which found the latch open
+abbrev pub Inside : Option RingEnd → ℕ → Type 0
+Inside None n = Unit {0}
+Inside (Some e) n = (e.view.inside ≡ 1) × (e.view.found ≡ 0) × (e.view.finished ≡ n)
+
+-- the receiver's latch, where the ring has one: n ends are not taken in, the others have finished `finished`, and where it
+-- is closed it was closed at `taken`
+abbrev pub Receiving : Option RingEnd → ℕ → ℕ → ℕ → Type 0
+Receiving None n finished taken = Unit {0}
+Receiving (Some e) n finished taken = (e.view.parts + n ≡ 127) × (e.view.finished ≡ finished) × (e.view.closed ≡ 1 → e.view.count ≡ taken)
+
+-- the pass of a sender with this number, which has sent so many
+abbrev pub SenderView : {L F : Type 0} → PassView L F → ℕ → ℕ → Type 0
+SenderView v from sent = (v.fresh ≡ false) × (v.sends ≡ true) × (v.from ≡ from) × (length v.put ≡ sent)
+
+-- the receiver's pass, with so many senders made and so many messages taken
+abbrev pub ReceiverView : {L F : Type 0} → PassView L F → ℕ → ℕ → Type 0
+ReceiverView v made taken = (v.fresh ≡ false) × (v.gets ≡ true) × (v.made ≡ made) × (length v.got ≡ taken) × (v.sends ≡ false) × (v.from ≡ 0) × (v.put ≡ [])
+
+-- the end is the k-th of the receiver's ring
+abbrev pub IsEnd : {L F : Type 0} → Receiver L F → ℕ → Sender L F → Type 0
+IsEnd r k e = (e.queue ≡ r.queue) × (e.latch ≡ r.latch) × (e.sender ≡ k)
+
+-- the ends of a new ring
+abbrev pub new_sender : {L F : Type 0} → SegId Global → Option TableId → ℕ → Option F → ℕ → Sender L F
+new_sender queue latch number family k = record { queue = queue; latch = latch; number = number; family = family; sender = k; sent = []; found = 0 }
+
+abbrev pub new_receiver : {L F : Type 0} → SegId Global → Option TableId → ℕ → Option F → ℕ → Receiver L F
+new_receiver queue latch number family senders = record { queue = queue; latch = latch; number = number; family = family; senders = senders; taken = []; closed = 0; tries = 0; seen = 0; known = []; found = 0 }

@@ -1,0 +1,7 @@
+mod Mails
+mod Answering
+mod Steps
+mod Carrying
+mod Turning
+mod Accepted
+mod Printed

@@ -1,0 +1,136 @@
+-- Polls of the threads.
+use Rattle.std.proofs.Common.{ℕ, ◌≡◌, ◌+◌, ◌≤◌, ◌<◌, true, List, [], ◌∷◌, ◌++◌, Some, get_or, length, arith, sym, ◌∙◌, ap, subst, length-append}
+use Rattle.std.specs.Prelude.{vec_len, slice_get}
+use Rattle.std.specs.List.{All}
+use Rattle.std.proofs.lemmas.List.Elements.{All-nil, All-same, All-rest, All-weaker, All-get_or}
+use Rattle.std.proofs.lemmas.Option.{slice_get-get_or, slice_get_within, same_Some}
+use Rattle.lw_base.specs.declared.message.What.{What}
+use Rattle.lw_base.specs.declared.message.What.TheVariants as what
+use Rattle.lw_model.specs.declared.script.Op.{Op}
+use Rattle.lw_target.specs.declared.mail.Mail.{Mail}
+use Rattle.lw_target.specs.declared.mail.Load.{Load}
+use Rattle.lw_target.specs.declared.acts.Outgoing.{Outgoing}
+use Rattle.lw_target.specs.declared.posts.Posts.{Posts}
+use Rattle.lw_target.specs.declared.turns.Target.{Target}
+use Rattle.lw_image.specs.Image.{SameSize}
+use Rattle.lw_target.specs.Messages.{Asked, FitsImage, IsWithin, AllFit, AllMayGo, operands, asked_work, waiting_work, weight}
+use Rattle.lw_target.specs.Ops.{IsOfOps, AllOfOps, asks_bytes}
+use Rattle.lw_target.specs.App.{Advance, IsStop}
+use Rattle.lw_target.specs.Client.{Progress}
+use Rattle.lw_target.specs.Work.{client_work, app_work}
+use Rattle.lw_target.specs.Turns.{Carried, OpsFit, IsRunning, Turned}
+use Rattle.lw_target.proofs.Carrying.{waiting_first}
+
+-- what holds of each element holds of the one at a place
+at_place : {X : Type 0} (P : X → Type 0) (xs : List X) (k : ℕ) (x : X) → slice_get xs k ≡ Some x → All P xs → P x
+at_place P xs k x found all =
+    let within : k < length xs = slice_get_within xs k x found in
+    subst P (same_Some (get_or xs k x) x (sym (slice_get-get_or xs k x within) ∙ found)) (All-get_or P xs k x within all)
+
+-- a request of ops that fit the image fits it
+pub may_go_of_op : (blocks : ℕ) (ops : List Op) (to : ℕ) (w : What) (carried : Load) → OpsFit blocks ops
+    → IsOfOps ops (record { to = to; what = w; load = carried }) → FitsImage blocks w carried
+may_go_of_op blocks ops to (what.Request k) carried fits of =
+    rw of.3 (at_place (λ o. asks_bytes o ≡ true → IsWithin blocks (operands o)) ops k of.0 of.1 fits of.2)
+may_go_of_op blocks ops to (what.Reply k) carried fits of = tt
+may_go_of_op blocks ops to (what.PutSelf d) carried fits of = tt
+may_go_of_op blocks ops to (what.Visit a b d) carried fits of = tt
+may_go_of_op blocks ops to (what.Visited k) carried fits of = tt
+may_go_of_op blocks ops to (what.Cast a b) carried fits of = tt
+may_go_of_op blocks ops to (what.Casted k) carried fits of = tt
+may_go_of_op blocks ops to what.Done carried fits of = tt
+may_go_of_op blocks ops to what.Stop carried fits of = tt
+may_go_of_op blocks ops to (what.Arrive a b) carried fits of = tt
+may_go_of_op blocks ops to (what.Order a b d) carried fits of = tt
+
+may_go : (blocks : ℕ) (ops : List Op) (sends : List Outgoing) → OpsFit blocks ops → AllOfOps ops sends → AllMayGo blocks sends
+may_go blocks ops sends fits all =
+    All-weaker (IsOfOps ops) (λ (s : Outgoing). FitsImage blocks s.what s.load) (λ s of. may_go_of_op blocks ops s.to s.what s.load fits of) sends all
+
+-- a stop fits any owner
+stop_goes : (blocks : ℕ) (s : Outgoing) → IsStop s → FitsImage blocks s.what s.load
+stop_goes blocks s e = subst (λ w. FitsImage blocks w s.load) (sym e) tt
+
+pub client_turned : (old new : Target) (before after : Asked) (least : ℕ) → IsRunning old
+    → Progress old.client new.client before after least → before.sends ≡ []
+    → Carried old.posts new.posts after.sends → new.acts.sends ≡ []
+    → new.app ≡ old.app → new.owner ≡ old.owner → vec_len new.devices ≡ vec_len old.devices → Turned old new least
+client_turned old new before after least r p none carried asked app owner devices =
+    let none_asked : asked_work before.sends ≡ 0 = ap asked_work none in
+    let sends = p.sends (All-same (IsOfOps old.client.of.ops) before.sends [] none (All-nil (IsOfOps old.client.of.ops))) in
+    record {
+      of = p.of;
+      devices = ap (λ a. vec_len a.owed) app;
+      running = record {
+        app_devices = devices ∙ r.app_devices ∙ sym (ap (λ a. vec_len a.owed) app);
+        client_devices = devices ∙ r.client_devices ∙ sym p.channels;
+        senders = carried.senders r.senders;
+        asked = asked;
+        ops = subst (λ o. OpsFit o.image.blocks new.client.of.ops) (sym owner) (subst (λ o. OpsFit old.owner.image.blocks o.ops) (sym p.of) r.ops);
+        fits = subst (λ o. AllFit o.image.blocks new.posts.owner.waiting) (sym owner)
+            (carried.fits old.owner.image.blocks r.fits (may_go old.owner.image.blocks old.client.of.ops after.sends r.ops sends));
+        block = subst (λ o. 0 < o.image.block) (sym owner) r.block;
+        writes = omega (arith, r.writes, ap (λ o. o.image.writes) owner, ap length carried.ran);
+      };
+      work = omega (arith, p.work, none_asked, carried.work, ap app_work app);
+    }
+
+pub app_turned : (old new : Target) (before after : Asked) (least : ℕ) → IsRunning old
+    → Advance old.app new.app before after least → before.sends ≡ []
+    → Carried old.posts new.posts after.sends → new.acts.sends ≡ []
+    → new.client ≡ old.client → new.owner ≡ old.owner → vec_len new.devices ≡ vec_len old.devices → Turned old new least
+app_turned old new before after least r p none carried asked client owner devices =
+    let none_asked : asked_work before.sends ≡ 0 = ap asked_work none in
+    let sends = p.sends (All-same IsStop before.sends [] none (All-nil IsStop)) in
+    record {
+      of = ap (λ c. c.of) client;
+      devices = p.devices;
+      running = record {
+        app_devices = devices ∙ r.app_devices ∙ sym p.devices;
+        client_devices = devices ∙ r.client_devices ∙ sym (ap (λ c. vec_len c.channels) client);
+        senders = carried.senders r.senders;
+        asked = asked;
+        ops = subst (λ o. OpsFit o.image.blocks new.client.of.ops) (sym owner) (subst (λ c. OpsFit old.owner.image.blocks c.of.ops) (sym client) r.ops);
+        fits = subst (λ o. AllFit o.image.blocks new.posts.owner.waiting) (sym owner)
+            (carried.fits old.owner.image.blocks r.fits
+            (All-weaker IsStop (λ (s : Outgoing). FitsImage old.owner.image.blocks s.what s.load) (stop_goes old.owner.image.blocks) after.sends sends));
+        block = subst (λ o. 0 < o.image.block) (sym owner) r.block;
+        writes = omega (arith, r.writes, ap (λ o. o.image.writes) owner, ap length carried.ran);
+      };
+      work = omega (arith, p.work, none_asked, carried.work, ap client_work client);
+    }
+
+-- the owner runs a message, and its replies are carried
+pub owner_turned : (old new : Target) (taken : Posts) (mail : Mail) (before after : Asked) → IsRunning old
+    → old.posts.owner.waiting ≡ mail ∷ taken.owner.waiting → taken.owner.ran ≡ old.posts.owner.ran ++ mail.tag ∷ []
+    → taken.owner.sent ≡ old.posts.owner.sent → taken.app ≡ old.posts.app → taken.client ≡ old.posts.client
+    → before.sends ≡ [] → SameSize old.owner.image new.owner.image → new.owner.image.writes ≤ old.owner.image.writes + 1
+    → ((blocks : ℕ) → AllMayGo blocks before.sends → AllMayGo blocks after.sends)
+    → asked_work after.sends + 1 ≤ asked_work before.sends + weight mail.tag.what
+    → Carried taken new.posts after.sends → new.acts.sends ≡ []
+    → new.app ≡ old.app → new.client ≡ old.client → vec_len new.devices ≡ vec_len old.devices → Turned old new 1
+owner_turned old new taken mail before after r first ran sent app_post client_post none size writes replies did carried asked app client devices =
+    let fit = λ (m : Mail). FitsImage old.owner.image.blocks m.tag.what m.load in
+    let go = λ (s : Outgoing). FitsImage old.owner.image.blocks s.what s.load in
+    let none_asked : asked_work before.sends ≡ 0 = ap asked_work none in
+    let rest = All-rest fit mail taken.owner.waiting old.posts.owner.waiting first r.fits in
+    let sends = replies old.owner.image.blocks (All-same go before.sends [] none (All-nil go)) in
+    let app_work_same : waiting_work taken.app.waiting ≡ waiting_work old.posts.app.waiting = ap (λ p. waiting_work p.waiting) app_post in
+    let client_work_same : waiting_work taken.client.waiting ≡ waiting_work old.posts.client.waiting = ap (λ p. waiting_work p.waiting) client_post in
+    let one_ran : length taken.owner.ran ≡ length old.posts.owner.ran + 1 = ap length ran ∙ length-append old.posts.owner.ran (mail.tag ∷ []) in
+    record {
+      of = ap (λ c. c.of) client;
+      devices = ap (λ a. vec_len a.owed) app;
+      running = record {
+        app_devices = devices ∙ r.app_devices ∙ sym (ap (λ a. vec_len a.owed) app);
+        client_devices = devices ∙ r.client_devices ∙ sym (ap (λ c. vec_len c.channels) client);
+        senders = carried.senders
+            (ap (λ p. length p.sent) app_post ∙ r.senders.0, ap (λ p. length p.sent) client_post ∙ r.senders.1, ap length sent ∙ r.senders.2);
+        asked = asked;
+        ops = subst (λ b. OpsFit b new.client.of.ops) (sym size.1) (subst (λ c. OpsFit old.owner.image.blocks c.of.ops) (sym client) r.ops);
+        fits = subst (λ b. AllFit b new.posts.owner.waiting) (sym size.1) (carried.fits old.owner.image.blocks rest sends);
+        block = omega (arith, size.0, r.block);
+        writes = omega (arith, r.writes, writes, ap length carried.ran, one_ran);
+      };
+      work = omega (arith, did, none_asked, carried.work, app_work_same, client_work_same, waiting_first _ _ mail first, ap client_work client, ap app_work app);
+    }

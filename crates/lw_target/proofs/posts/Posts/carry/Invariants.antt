@@ -1,0 +1,16 @@
+use Rattle.std.proofs.Common.{ℕ, ◌≡◌, ◌+◌, length}
+use Rattle.lw_target.specs.Messages.{AllFit, AllMayGo, asked_work}
+use Rattle.lw_target.specs.Turns.{HasSenders, posts_work}
+use Rattle.lw_target.proofs.posts.Posts.carry.Given as goal
+
+abbrev pub invariant-loop-out : goal.invariant-loop-out
+invariant-loop-out l = record {
+  ran : l.self.owner.ran ≡ l.initial.self.owner.ran;
+  senders : HasSenders l.self;
+  work : posts_work l.self + asked_work l.acts.sends ≡ posts_work l.initial.self + asked_work l.initial.acts.sends;
+  fits : (blocks : ℕ) → AllFit blocks l.initial.self.owner.waiting → AllMayGo blocks l.initial.acts.sends
+      → AllFit blocks l.self.owner.waiting × AllMayGo blocks l.acts.sends;
+}
+
+abbrev pub decreases-loop-out : goal.decreases-loop-out
+decreases-loop-out l = length l.acts.sends

@@ -1,0 +1,10 @@
+pub mod Messages
+pub mod Ops
+pub mod Actions
+pub mod Owner
+pub mod Work
+pub mod Client
+pub mod App
+pub mod Turns
+pub mod Run
+pub mod Sample

@@ -1,0 +1,50 @@
+-- The messages under way, and the turns that carry them.
+use Rattle.std.specs.Prelude.{ℕ, ◌≡◌, ◌+◌, ◌≤◌, ◌<◌, true, List, [], length, vec_len}
+use Rattle.std.specs.List.{All}
+use Rattle.lw_model.specs.declared.script.Op.{Op}
+use Rattle.lw_target.specs.declared.acts.Outgoing.{Outgoing}
+use Rattle.lw_target.specs.declared.posts.Posts.{Posts}
+use Rattle.lw_target.specs.declared.turns.Target.{Target}
+use Rattle.lw_target.specs.Messages.{AllFit, AllMayGo, IsWithin, operands, waiting_work, asked_work}
+use Rattle.lw_target.specs.Ops.{asks_bytes}
+use Rattle.lw_target.specs.Work.{client_work, app_work}
+
+-- each request of the ops is one within the image
+abbrev pub OpsFit : ℕ → List Op → Type 0
+OpsFit blocks ops = All (λ o. asks_bytes o ≡ true → IsWithin blocks (operands o)) ops
+
+abbrev pub posts_work : Posts → ℕ
+posts_work p = waiting_work p.app.waiting + waiting_work p.client.waiting + waiting_work p.owner.waiting
+
+-- each of the three threads may send to each
+abbrev pub HasSenders : Posts → Type 0
+HasSenders p = (length p.app.sent ≡ 3) × (length p.client.sent ≡ 3) × (length p.owner.sent ≡ 3)
+
+-- some sends were delivered, each to its receiver, and nothing was run
+pub record Carried (old new : Posts) (sends : List Outgoing) : Type 0 where
+  pub ran : new.owner.ran ≡ old.owner.ran
+  pub senders : HasSenders old → HasSenders new
+  pub work : posts_work new ≡ posts_work old + asked_work sends
+  pub fits : (blocks : ℕ) → AllFit blocks old.owner.waiting → AllMayGo blocks sends → AllFit blocks new.owner.waiting
+
+-- what holds between the polls of the threads
+pub record IsRunning (t : Target) : Type 0 where
+  pub app_devices : vec_len t.devices ≡ vec_len t.app.owed
+  pub client_devices : vec_len t.devices ≡ vec_len t.client.channels
+  pub senders : HasSenders t.posts
+  pub asked : t.acts.sends ≡ []
+  pub ops : OpsFit t.owner.image.blocks t.client.of.ops
+  pub fits : AllFit t.owner.image.blocks t.posts.owner.waiting
+  pub block : 0 < t.owner.image.block
+  pub writes : t.owner.image.writes ≤ length t.posts.owner.ran
+
+-- all that is still to be done
+abbrev pub work : Target → ℕ
+work t = client_work t.client + app_work t.app + posts_work t.posts
+
+-- the threads went on, and did at least so much of their work
+pub record Turned (old new : Target) (least : ℕ) : Type 0 where
+  pub of : new.client.of ≡ old.client.of
+  pub devices : vec_len new.app.owed ≡ vec_len old.app.owed
+  pub running : IsRunning new
+  pub work : work new + least ≤ work old

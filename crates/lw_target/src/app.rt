@@ -1,0 +1,163 @@
+//! The app: once every client is done it unregisters the devices, makes their callbacks and stops the owners.
+ghost use Rattle.std.specs.Prelude.{◌≡◌, ◌<◌, ◌≤◌, ◌+◌, ◌↔◌, length, vec_len, cond, true, false, nat_lt, count_by, slice_index_or, OnOk, IfOk, IsTrue};
+ghost use Rattle.std.specs.List.{All, list_all};
+
+use crate::acts::Acts;
+use crate::device::Device;
+use crate::mail::{Load, Mail};
+use lw_base::{NoMemory, What};
+use lw_model::{Answer, Called, Did, Items};
+use std::alloc::Global;
+
+/// The app's thread.
+pub const APP: u32 = 0;
+
+/// The app.
+#[derive(Drop)]
+pub struct App {
+    clients: u32,
+    done: u32,
+    /// Whether it has unregistered the devices.
+    pub began: bool,
+    /// Of each device whether its callback is owed.
+    pub owed: Vec<bool>,
+    pub ended: bool,
+    did: Items<Did>,
+    called: Items<Called>,
+    ghost few: { vec_len owed ≤ 16 },
+    ghost clients_fit: { clients ≤ 64 },
+    ghost devices: { list_all (λ c. nat_lt c.device (vec_len owed)) called ≡ true },
+}
+
+impl App {
+    ghost use Rattle.lw_target.specs.App.{Advance, IsStop};
+    ghost use Rattle.lw_target.specs.Work.{app_work};
+
+    /// The app of a run with so many clients and devices.
+    pub fn new(alloc: Global, clients: u32, devices: usize) -> Result<App, NoMemory>
+        requires clients { clients ≤ 64 }
+        requires few { devices ≤ 16 }
+        ensures { IfOk result (λ a. vec_len a.owed ≡ devices) }
+    {
+        Ok(App {
+            clients,
+            done: 0,
+            began: false,
+            owed: vec![in alloc; false; devices]?,
+            ended: false,
+            did: Items::new(alloc),
+            called: Items::new(alloc),
+        })
+    }
+
+    /// Runs a message: a client's `Done` is counted.
+    pub fn run(&mut self, mail: &Mail)
+        ensures devices { vec_len self.new.owed ≡ vec_len self.old.owed }
+        ensures work { app_work self.new ≡ app_work self.old }
+    {
+        if let What::Done = mail.tag.what {
+            self.done = self.done.saturating_add(1);
+        }
+    }
+
+    /// Once all clients are done: unregisters the devices, makes the callbacks that are due, and where none is owed
+    /// stops the owners and asks to end. Answers whether it listed or sent anything.
+    pub fn tick(&mut self, devices: &mut [Device], acts: &mut Acts) -> Result<bool, NoMemory>
+        requires { length devices.old ≡ vec_len self.old.owed }
+        ensures { IfOk result (λ worked. Advance self.old self.new acts.old acts.new (cond worked 1 0)) }
+    {
+        if self.ended || self.done < self.clients {
+            return Ok(false);
+        }
+        let began = self.begin(devices, acts.ran())?;
+        let called = self.call_back(devices, acts.ran())?;
+        let stopped = self.stop_owners(acts)?;
+        Ok(began || called || stopped)
+    }
+
+    // Unregisters each device, unless it has done so.
+    fn begin(&mut self, devices: &mut [Device], at: u64) -> Result<bool, NoMemory>
+        requires { length devices.old ≡ vec_len self.old.owed }
+        ensures devices { OnOk result (vec_len self.new.owed ≡ vec_len self.old.owed) }
+        ensures ended { OnOk result (self.new.ended ≡ self.old.ended) }
+        ensures work { IfOk result (λ worked. app_work self.new + cond worked 1 0 ≤ app_work self.old) }
+    {
+        if self.began {
+            return Ok(false);
+        }
+        self.began = true;
+        for device in 0..devices.len() {
+            let answer = devices[device].unregister(APP);
+            if let Answer::Began { .. } = answer {
+                self.owed[device] = true;
+            }
+            self.did.push(Did {
+                at,
+                op: device as u32,
+                answer,
+            })?;
+        }
+        Ok(true)
+    }
+
+    // Makes each callback that is owed and due.
+    fn call_back(&mut self, devices: &mut [Device], at: u64) -> Result<bool, NoMemory>
+        requires { length devices.old ≡ vec_len self.old.owed }
+        ensures devices { OnOk result (vec_len self.new.owed ≡ vec_len self.old.owed) }
+        ensures ended { OnOk result (self.new.ended ≡ self.old.ended) }
+        ensures work { IfOk result (λ worked. app_work self.new + cond worked 1 0 ≤ app_work self.old) }
+    {
+        let mut called = false;
+        for device in 0..devices.len() {
+            if self.owed[device] && devices[device].fire() {
+                self.list_call(device, at)?;
+                called = true;
+            }
+        }
+        Ok(called)
+    }
+
+    // Lists a callback that was owed.
+    fn list_call(&mut self, device: usize, at: u64) -> Result<(), NoMemory>
+        requires place { device < vec_len self.old.owed }
+        requires owed { slice_index_or self.old.owed.items device true ≡ true }
+        ensures devices { OnOk result (vec_len self.new.owed ≡ vec_len self.old.owed) }
+        ensures ended { OnOk result (self.new.ended ≡ self.old.ended) }
+        ensures work { OnOk result (app_work self.new + 1 ≤ app_work self.old) }
+    {
+        self.owed[device] = false;
+        self.called.push(Called {
+            at,
+            device: device as u32,
+        })
+    }
+
+    // Where no callback is owed, sends a stop to each owner and asks to end.
+    fn stop_owners(&mut self, acts: &mut Acts) -> Result<bool, NoMemory>
+        requires { self.old.ended ≡ false }
+        ensures { IfOk result (λ worked. Advance self.old self.new acts.old acts.new (cond worked 1 0)) }
+    {
+        if self.owed.contains(&true) {
+            return Ok(false);
+        }
+        for owner in 0..self.owed.len() {
+            acts.send(1 + self.clients + owner as u32, What::Stop, Load::Nothing)?;
+        }
+        self.ended = true;
+        Ok(true)
+    }
+
+    /// Whether it has asked to end.
+    pub fn has_ended(&self) -> bool
+        ensures { result ≡ self.now.ended }
+    {
+        self.ended
+    }
+
+    /// What it listed.
+    pub fn into_logs(self) -> (Items<Did>, Items<Called>)
+        ensures { list_all (λ c. nat_lt c.device (vec_len self.owed)) result.1 ≡ true }
+    {
+        (self.did, self.called)
+    }
+}

@@ -1,0 +1,20 @@
+//! The target that a run serves: the app, the clients and the owners of the images as state machines of their own, and
+//! the loop that turns them.
+#![tactic(auto)]
+
+mod action;
+mod acts;
+mod app;
+mod channel;
+mod client;
+mod device;
+mod mail;
+mod owner;
+mod post;
+mod posts;
+mod run;
+#[cfg(test)]
+mod tests;
+mod turns;
+
+pub use run::run_script;

@@ -1,0 +1,64 @@
+//! The message of the runs.
+ghost use Rattle.std.specs.Prelude.{◌≡◌, Some};
+
+use lw_base::{Tag, Tagged, What};
+use lw_ring::{SendEnd, SendRefusal};
+use std::sync::Wait;
+
+/// A tag, and something to carry.
+#[derive(Clone, Copy, PartialEq, Eq, Debug)]
+pub struct Note {
+    pub tag: Tag,
+    pub value: u64,
+}
+
+impl Note {
+    pub fn new(sender: u32, number: u64) -> Self
+        ensures { (result.tag.sender ≡ sender) × (result.tag.number ≡ number) }
+    {
+        let tag = Tag {
+            sender,
+            number,
+            what: What::Done,
+        };
+        Note { tag, value: number }
+    }
+}
+
+impl Tagged for Note {
+    ghost use Rattle.std.specs.Prelude.{refl};
+    ghost use Rattle.ring_bench.specs.declared.note.Note.{Note};
+
+    type Letter = Note;
+
+    type Family = ();
+
+    ghost letter = { λ n. n };
+
+    ghost tag_of = { λ n. n.tag };
+
+    ghost fits = { λ _ _ _. Unit {0} };
+
+    ghost marked = { λ n s k. record n { tag = record n.tag { sender = s; number = k } } };
+
+    ghost marked_tag = { λ n s k. refl };
+
+    fn tag(&self) -> Tag {
+        self.tag
+    }
+
+    fn mark(&mut self, sender: u32, number: u64) {
+        self.tag.sender = sender;
+        self.tag.number = number;
+    }
+}
+
+/// Sends the note that comes next at this end.
+pub fn put<R: Wait>(rt: &R, end: &mut SendEnd<Note>) -> Result<(), SendRefusal<Note>>
+    requires { end.old.family ≡ Some tt }
+    ensures ring { (end.new.queue ≡ end.old.queue) × (end.new.latch ≡ end.old.latch) }
+    ensures end { (end.new.family ≡ end.old.family) × (end.new.sender ≡ end.old.sender) }
+{
+    let note = Note::new(end.sender(), end.sent());
+    end.send(rt, note)
+}
