@@ -1,10 +1,11 @@
 //! laws
-ghost use Rattle.std.specs.Prelude.{◌≡◌, ℕ, List, ◌++◌, ◌∷◌, [], Some, decimal};
-ghost use Rattle.lw_model.specs.ReportText.{line};
-ghost use Rattle.lw_model.specs.declared.record.Home.{Home};
-ghost use Rattle.lw_report.specs.LineKinds.{pair_in};
+ghost use Rattle.std.specs.Prelude.{◌≡◌, ℕ, List, ◌++◌, ◌∷◌, [], Some, true};
+ghost use Rattle.lw_model.specs.ReportText.{op_line};
+ghost use Rattle.lw_model.specs.ScriptRules.{is_pattern};
+ghost use Rattle.lw_model.specs.declared.script.Op.{Op};
+ghost use Rattle.lw_report.specs.LineKinds.{op_in};
 
 /// try
 pub fn try_law()
-    ensures { (w l : List ℕ) (x : Home) → pair_in w l ≡ Some x → l ≡ line (w ∷ decimal x.small ∷ decimal x.large ∷ []) ++ 10 ∷ [] }
+    ensures { (l : List ℕ) (o : Op) → op_in l ≡ Some o → is_pattern o ≡ true → l ≡ op_line o ++ 10 ∷ [] }
 {}
