@@ -1,7 +1,8 @@
 -- What the reading of a report answers.
-use Rattle.std.specs.Prelude.{◌≡◌, ℕ, [], None, Result, Ok, Err}
+use Rattle.std.specs.Prelude.{List, ◌≡◌, ℕ, [], None, Result, Ok, Err}
 use Rattle.lw_model.specs.declared.record.Record.{Record}
 use Rattle.lw_model.specs.declared.record.Scheduler.TheVariants.{Static}
+use Rattle.lw_model.specs.ReportText.{text_of}
 use Rattle.lw_report.specs.declared.read.contents.Contents.{Contents}
 use Rattle.lw_report.specs.declared.read.parsed.Parsed.{Parsed}
 use Rattle.lw_report.specs.declared.read.parsed.Parsed.TheVariants.{Told, BadLine}
@@ -20,3 +21,8 @@ pub record IsStatic (r : Record) : Type 0 where
 abbrev pub Tells : Parsed → Result Contents ℕ → Type 0
 Tells (Told r) told = (told ≡ Ok (contents_of r)) × IsStatic r
 Tells (BadLine line) told = told ≡ Err line
+
+-- a record that was told is one with this text
+abbrev pub IsOfText : Parsed → List ℕ → Type 0
+IsOfText (Told r) bytes = text_of r ≡ bytes
+IsOfText (BadLine line) bytes = Unit {0}

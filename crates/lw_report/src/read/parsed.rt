@@ -3,7 +3,7 @@ ghost use Rattle.std.specs.Prelude.{◌≡◌, IfOk, None, [], true};
 ghost use Rattle.lw_model.specs.Printable.{is_printable};
 ghost use Rattle.lw_model.specs.declared.record.Scheduler.TheVariants.{Static};
 ghost use Rattle.lw_report.specs.Report.{reading};
-ghost use Rattle.lw_report.specs.Parsed.{IsStatic, contents_of, Tells};
+ghost use Rattle.lw_report.specs.Parsed.{IsOfText, IsStatic, contents_of, Tells};
 
 use crate::read::contents::Contents;
 use crate::read::lines::{Lines, Stop};
@@ -44,7 +44,8 @@ fn record(alloc: Global, contents: Contents) -> Record
 ///
 /// `scheduler dynamic` isn't served yet: it is bad line 2.
 pub fn read_report(alloc: Global, bytes: &[u8]) -> Result<Parsed, NoMemory>
-    ensures { IfOk result (λ p. Tells p (reading bytes.now)) }
+    ensures told { IfOk result (λ p. Tells p (reading bytes.now)) }
+    ensures text { IfOk result (λ p. IsOfText p bytes.now) }
 {
     let mut lines = Lines::of(bytes);
     match report(alloc, &mut lines) {
