@@ -1,5 +1,5 @@
 -- Lists of lines that are read one behind the other.
-use Rattle.std.proofs.Common.{◌≡◌, ℕ, List, Result, Ok, Err, Option, Some, is_none, if◌then◌else◌, refl, ap, ◌∙◌}
+use Rattle.std.proofs.Common.{◌≡◌, ℕ, List, Result, Ok, Err, Some, is_none, if◌then◌else◌, ap, ◌∙◌}
 use Rattle.lw_model.specs.declared.script.ImageOf.{ImageOf}
 use Rattle.lw_model.specs.declared.script.ClientOf.{ClientOf}
 use Rattle.lw_model.specs.declared.record.Home.{Home}

@@ -1,13 +1,12 @@
 -- What was read can be printed.
-use Rattle.std.proofs.Common.{◌≡◌, ℕ, zero, suc, ◌+◌, ◌<◌, ◌==◌, nat_lt, nat_le, Bool, true, false, ◌&&◌, ◌||◌, not, filter, is_some, if◌then◌else◌, List, [], ◌∷◌, codes, length, Option, Some, None, option_map, Result, Ok, Err, is_none, refl, sym, ap, subst, ◌∙◌, inl, inr, arith}
+use Rattle.std.proofs.Common.{◌≡◌, ℕ, zero, suc, ◌+◌, ◌==◌, nat_lt, nat_le, Bool, true, false, ◌&&◌, ◌||◌, filter, is_some, if◌then◌else◌, List, [], ◌∷◌, codes, length, Option, Some, None, option_map, Result, Ok, Err, is_none, refl, sym, ap, subst, ◌∙◌, arith}
 use Rattle.std.specs.List.{list_all, enumerate_from}
-use Rattle.std.proofs.lemmas.Bool.{and_from, eq-eqb, ne_eqb, le-leb, lt-leb, lt-ltb, le-ltb, eqb-false, leb-false}
+use Rattle.std.proofs.lemmas.Bool.{and_from, eq-eqb, le-leb, lt-ltb, eqb-false, leb-false}
 use Rattle.lw_base.specs.declared.message.Tag.{Tag}
 use Rattle.lw_base.specs.declared.message.What.{What}
 use Rattle.lw_base.specs.declared.message.What.TheVariants as what
 use Rattle.lw_model.specs.declared.script.Script.{Script}
 use Rattle.lw_model.specs.declared.record.ThreadRecord.{ThreadRecord}
-use Rattle.lw_model.specs.declared.record.DeviceEnd.{DeviceEnd}
 use Rattle.lw_model.specs.declared.record.Scheduler.TheVariants.{Static}
 use Rattle.lw_model.specs.declared.record.RoleKind.{RoleKind}
 use Rattle.lw_model.specs.declared.record.RoleKind.TheVariants.{App, Client, Owner}
@@ -21,13 +20,13 @@ use Rattle.lw_model.specs.declared.record.SeenBy.TheVariants as by
 use Rattle.lw_model.specs.ScriptRules.{rule_broken, is_within}
 use Rattle.lw_model.specs.Printable.{has_a_line, has_bytes, has_results, has_role, may_reply, is_printable_thread, is_printable}
 use Rattle.lw_report.specs.LineParts.{after, spaced, u32_max, u64_max}
-use Rattle.lw_report.specs.LineKinds.{last32, last64, ended, visit_in, cast_in, what_in, ran_in, called_in, bytes_in, last_digits, decoded, replied_in, reply_in, results, mark, is_space, hop_in, did_in, image_in, thread_in, device_in, results_in, seen_in, number_in}
+use Rattle.lw_report.specs.LineKinds.{last32, last64, ended, visit_in, cast_in, what_in, ran_in, called_in, bytes_in, last_digits, decoded, replied_in, reply_in, results, mark, is_space, hop_in, did_in, image_in, thread_in, device_in, results_in, seen_in}
 use Rattle.lw_report.specs.declared.read.contents.Contents.{Contents}
 use Rattle.lw_report.specs.declared.read.single.FixedLine.TheVariants.{Title, StaticScheduler, End}
 use Rattle.lw_report.specs.declared.read.single.NumberLine.TheVariants.{Period, Images, Clients}
 use Rattle.lw_report.specs.declared.read.single.PairLine.TheVariants.{Pool, Left}
 use Rattle.lw_report.specs.Once.{fixed_in, number_of_in, pair_of_in, reactors_in}
-use Rattle.lw_report.specs.Machine.{State, ◌>>=◌, one, many, many_from, numbered, is_nil}
+use Rattle.lw_report.specs.Machine.{State, one, many, is_nil}
 use Rattle.lw_report.specs.Report.{list_at, client_at, script_at, role_at, thread_lines, thread_at, threads_at, devices_at, report_at}
 use Rattle.lw_report.proofs.Said.{read_parts, some_parts, map_parts, if_some, if_ok, one_said, many_all, numbered_all, chosen}
 

@@ -1,5 +1,5 @@
 -- A list of results that is read one by one.
-use Rattle.std.proofs.Common.{◌≡◌, ℕ, zero, suc, ◌+◌, ◌-◌, ◌<◌, List, [], ◌∷◌, ◌++◌, Option, Some, None, option_map, if◌then◌else◌, Bool, true, false, append_assoc, append-nil, refl, sym, ap, subst, ◌∙◌, arith}
+use Rattle.std.proofs.Common.{◌≡◌, ℕ, suc, ◌+◌, ◌-◌, ◌<◌, List, [], ◌∷◌, ◌++◌, Option, Some, None, option_map, if◌then◌else◌, Bool, true, false, append_assoc, append-nil, refl, sym, ap, ◌∙◌, arith}
 use Rattle.lw_report.specs.LineParts.{is_end}
 use Rattle.lw_report.specs.LineKinds.{ended, results}
 

@@ -1,10 +1,10 @@
 -- What is known of what was read: its parts, and that a record of it has a text.
-use Rattle.std.proofs.Common.{◌≡◌, ℕ, zero, suc, ◌+◌, ◌<◌, ◌==◌, nat_lt, nat_le, Bool, true, false, cond, ◌&&◌, not, if◌then◌else◌, List, [], ◌∷◌, length, Option, Some, None, option_map, option_and_then, Result, Ok, Err, is_none, refl, sym, ap, subst, ◌∙◌, inl, inr, arith}
+use Rattle.std.proofs.Common.{◌≡◌, ℕ, zero, suc, ◌+◌, Bool, true, false, if◌then◌else◌, List, [], ◌∷◌, length, Option, Some, None, option_map, option_and_then, Result, Ok, Err, refl, sym, ap, ◌∙◌}
 use Rattle.std.specs.List.{list_all, enumerate_from}
-use Rattle.std.proofs.lemmas.Bool.{and_from, eq-eqb, eqb-true, ne_eqb, le-leb, lt-ltb, cases_lt, cases_eq, eqb-false, leb-false}
-use Rattle.lw_report.specs.LineParts.{after, spaced, is_end}
-use Rattle.lw_report.specs.LineKinds.{choose, ended}
-use Rattle.lw_report.specs.Machine.{State, ◌>>=◌, taken, one, many, many_from, numbered}
+use Rattle.std.proofs.lemmas.Bool.{and_from}
+use Rattle.lw_report.specs.LineParts.{after}
+use Rattle.lw_report.specs.LineKinds.{choose}
+use Rattle.lw_report.specs.Machine.{State, ◌>>=◌, one, many_from, numbered}
 
 -- ---- parts of a reading that succeeded
 

@@ -1,5 +1,5 @@
 -- The lines of a report, kind by kind: what a line says, where it is one of the kind.
-use Rattle.std.specs.Prelude.{ℕ, zero, suc, Bool, ◌&&◌, ◌==◌, nat_le, nat_lt, ◌||◌, not, List, [], ◌∷◌, codes, length, bytes_eq, filter, is_some, if◌then◌else◌, Option, Some, None, Ok, Err, option_map, option_and_then}
+use Rattle.std.specs.Prelude.{ℕ, zero, suc, Bool, ◌&&◌, ◌==◌, nat_lt, ◌||◌, not, List, [], ◌∷◌, codes, length, filter, is_some, if◌then◌else◌, Option, Some, None, Ok, Err, option_map, option_and_then}
 use Rattle.std.specs.List.{list_all}
 use Rattle.std.specs.Str.{is_utf8}
 use Rattle.hex.specs.Hex.{decode_of}

@@ -1,5 +1,5 @@
 -- What the reading of a report answers.
-use Rattle.std.specs.Prelude.{◌≡◌, ℕ, [], Option, None, Result, Ok, Err}
+use Rattle.std.specs.Prelude.{◌≡◌, ℕ, [], None, Result, Ok, Err}
 use Rattle.lw_model.specs.declared.record.Record.{Record}
 use Rattle.lw_model.specs.declared.record.Scheduler.TheVariants.{Static}
 use Rattle.lw_report.specs.declared.read.contents.Contents.{Contents}

@@ -1,5 +1,5 @@
 -- A text as its lines. Each has its line feed, but for a last one that lacks it.
-use Rattle.std.specs.Prelude.{ℕ, ◌+◌, ◌==◌, Bool, List, [], ◌∷◌, length, position, if◌then◌else◌, Option, Some, None}
+use Rattle.std.specs.Prelude.{ℕ, ◌+◌, ◌==◌, Bool, List, [], ◌∷◌, length, position, if◌then◌else◌, Some, None}
 
 abbrev pub is_feed : ℕ → Bool
 is_feed b = b == 10

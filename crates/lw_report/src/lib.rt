@@ -6,6 +6,8 @@
 mod parts;
 mod printed;
 mod read;
+#[cfg(test)]
+mod tests;
 mod text;
 mod threads;
 

@@ -1,7 +1,6 @@
-use Rattle.std.proofs.Common.{◌≡◌, sym, ap, ◌∙◌, ◌+◌, ◌-◌, arith}
-use Rattle.lw_report.specs.LineParts.{spaced, u32_max}
+use Rattle.std.proofs.Common.{sym, ap, ◌∙◌, ◌+◌, ◌-◌}
 use Rattle.lw_report.specs.LineKinds.{mark, results}
-use Rattle.lw_report.proofs.Results.{prefixed, results_step, results_stop, results_end}
+use Rattle.lw_report.proofs.Results.{prefixed, results_step, results_stop}
 use Rattle.lw_report.proofs.read.kinds.marks.Goals as goal
 
 pub returns-in-None : goal.returns-in-None

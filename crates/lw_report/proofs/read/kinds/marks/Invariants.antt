@@ -1,5 +1,4 @@
 use Rattle.std.proofs.Common.{◌≡◌, ◌-◌}
-use Rattle.lw_report.specs.LineParts.{spaced, u32_max}
 use Rattle.lw_report.specs.LineKinds.{mark, results}
 use Rattle.lw_report.proofs.Results.{prefixed}
 use Rattle.lw_report.proofs.read.kinds.marks.Given as goal

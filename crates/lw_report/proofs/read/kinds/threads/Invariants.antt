@@ -1,6 +1,6 @@
 use Rattle.std.proofs.Common.{◌≡◌, ◌-◌}
 use Rattle.lw_report.specs.LineParts.{spaced, u32_max}
-use Rattle.lw_report.specs.LineKinds.{mark, results}
+use Rattle.lw_report.specs.LineKinds.{results}
 use Rattle.lw_report.proofs.Results.{prefixed}
 use Rattle.lw_report.proofs.read.kinds.threads.Given as goal
 

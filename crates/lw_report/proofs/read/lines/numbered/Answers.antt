@@ -1,8 +1,6 @@
-use Rattle.std.proofs.Common.{◌≡◌, sym, ap, ◌∙◌, ◌+◌, ◌-◌, arith, Err, Ok, Result}
-use Rattle.lw_report.specs.declared.read.lines.Stop.{Stop}
-use Rattle.lw_report.specs.declared.read.lines.Stop.TheVariants.{BadLine, NoMemory}
-use Rattle.lw_report.specs.Machine.{State, Says, SaysList, numbered}
-use Rattle.lw_report.proofs.Reading.{before, numbered_more, numbered_bad, stop_says}
+use Rattle.std.proofs.Common.{sym, ap, ◌∙◌, ◌+◌, ◌-◌}
+use Rattle.lw_report.specs.Machine.{numbered}
+use Rattle.lw_report.proofs.Reading.{before, numbered_more, stop_says}
 use Rattle.lw_report.proofs.read.lines.numbered.Goals as goal
 
 pub returns-in-Err : goal.returns-in-Err

@@ -1,5 +1,3 @@
-use Rattle.std.proofs.Common.{◌≡◌, ap, ◌∙◌}
-use Rattle.lw_report.specs.Report.{report_at}
 use Rattle.lw_report.proofs.Printable.{contents_fit}
 use Rattle.lw_report.proofs.read.parsed.read_report.Goals as goal
 

@@ -1,5 +1,4 @@
-use Rattle.std.proofs.Common.{◌≡◌, ◌+◌, ◌-◌, ◌*◌, min, take, get_or, arith}
-use Rattle.lw_report.specs.LineParts.{value_from}
+use Rattle.std.proofs.Common.{arith}
 use Rattle.lw_report.proofs.Numerals.{value_more}
 use Rattle.lw_report.proofs.read.parts.value_of.Goals as goal
 

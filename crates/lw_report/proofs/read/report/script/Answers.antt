@@ -1,4 +1,4 @@
-use Rattle.std.proofs.Common.{◌≡◌, sym, ap, ◌∙◌, Ok, Result, ℕ, List}
+use Rattle.std.proofs.Common.{sym, ap, ◌∙◌, Ok, Result, ℕ, List}
 use Rattle.lw_model.specs.declared.script.ImageOf.{ImageOf}
 use Rattle.lw_model.specs.declared.script.ClientOf.{ClientOf}
 use Rattle.lw_report.specs.Machine.{State}

@@ -1,4 +1,4 @@
-use Rattle.std.proofs.Common.{◌≡◌, sym, ap, ap₂, ◌∙◌, List}
+use Rattle.std.proofs.Common.{sym, ap, ap₂, ◌∙◌, List}
 use Rattle.lw_model.specs.declared.record.Reply.{Reply}
 use Rattle.lw_model.specs.declared.record.Seen.{Seen}
 use Rattle.lw_report.specs.Report.{client_lines}
