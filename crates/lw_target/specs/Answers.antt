@@ -3,8 +3,8 @@ use Rattle.std.specs.Prelude.{ℕ, ◌==◌, nat_lt, nat_le, if◌then◌else◌
 use Rattle.lw_model.specs.declared.record.Answer.{Answer}
 use Rattle.lw_model.specs.declared.record.Answer.TheVariants.{Given, Again, Shut, Counted, Deferred, NoChannel, Sent, Began, Already}
 use Rattle.lw_target.specs.declared.channel.Channel.{Channel}
-use Rattle.lw_target.specs.declared.client.Admission.{Admission}
-use Rattle.lw_target.specs.declared.client.Admission.TheVariants as admission
+use Rattle.lw_target.specs.declared.admission.Admission.{Admission}
+use Rattle.lw_target.specs.declared.admission.Admission.TheVariants as admission
 use Rattle.lw_target.specs.declared.device.Device.{Device}
 
 -- a get: refused once unregistration has begun; else the channel that stands, or a new one

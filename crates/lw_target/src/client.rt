@@ -8,6 +8,7 @@ ghost use Rattle.lw_target.specs.Ops.{is_servable, asks_bytes};
 
 use crate::action::{Action, action_of};
 use crate::acts::Acts;
+use crate::admission::Admission;
 use crate::app::APP;
 use crate::channel::Channel;
 use crate::device::Device;
@@ -18,15 +19,6 @@ use std::alloc::Global;
 
 /// How many ops a client does in one tick.
 const OPS_OF_A_TICK: u32 = 8;
-
-/// What is to become of a request.
-enum Admission {
-    /// The client holds no reference to the device.
-    NoChannel,
-    /// Too many requests are unanswered.
-    Waits,
-    Sends,
-}
 
 /// A client.
 #[derive(Drop)]
