@@ -13,6 +13,13 @@ const FIRST: &str =
 const REPORT: &str =
     "lightrun report 1\nscheduler static\nreactors 1\nperiod 1000000\npool 4 1\nimages 1\nimage m 16 4\nclients 1\nclient a 4 4\nop get 0\nop write 0 0 1 ab\nop read 0 0 1\nop put 0\nthread 0 app 0\nran 1 0 done\ndid 1 0 began 1\ncalled 1 0\nthread 1 client 0\nran 2 0 reply 1\nran 2 1 reply 2\nran 1 0 putself 0\ndid 0 0 given 0\ndid 0 1 sent\ndid 0 2 sent\ndid 2 3 deferred\ndid 2 4 closed\nreply 1 ok\nreply 2 bytes abababababababababababababababab\nthread 2 owner 0\nran 1 0 request 1\nran 1 1 request 2\nran 0 0 stop\ndevice 0 1 0 1\nhome 4 1\nend\n";
 
+// A pattern of three bytes over two blocks, in digits of both cases, read from its second block on, at depth 1.
+const SECOND: &str =
+    "{\"version\":1,\"images\":[{\"name\":\"m\",\"block\":16,\"blocks\":8}],\"clients\":[{\"name\":\"a\",\"depth\":1,\"ops\":[[\"get\",\"m\"],[\"write\",\"m\",1,2,\"0aFF01\"],[\"read\",\"m\",2,2],[\"put\",\"m\"]]}],\"pool\":{\"small\":4,\"large\":1}}";
+
+const SECOND_REPORT: &str =
+    "lightrun report 1\nscheduler static\nreactors 1\nperiod 1000000\npool 4 1\nimages 1\nimage m 16 8\nclients 1\nclient a 1 4\nop get 0\nop write 0 1 2 0aff01\nop read 0 2 2\nop put 0\nthread 0 app 0\nran 1 0 done\ndid 1 0 began 1\ncalled 1 0\nthread 1 client 0\nran 2 0 reply 1\nran 2 1 reply 2\nran 1 0 putself 0\ndid 0 0 given 0\ndid 0 1 sent\ndid 1 2 sent\ndid 2 3 deferred\ndid 2 4 closed\nreply 1 ok\nreply 2 bytes ff010aff010aff010aff010aff010aff00000000000000000000000000000000\nthread 2 owner 0\nran 1 0 request 1\nran 1 1 request 2\nran 0 0 stop\ndevice 0 1 0 1\nhome 4 1\nend\n";
+
 // An end, and what the sink took.
 #[derive(Drop)]
 struct Ended {
@@ -80,6 +87,14 @@ fn the_first_script_is_reported(rt: HostRuntime) -> Result<(), Fail> {
             assert!(rt; ended.written.as_slice() == REPORT.as_bytes());
         }
     }
+    Ok(())
+}
+
+#[test]
+fn a_pattern_goes_on_over_blocks(rt: HostRuntime) -> Result<(), Fail> {
+    let ended = run_of(rt.alloc(), SECOND, 100)?;
+    assert!(rt; ended.finish.status == 0);
+    assert!(rt; ended.written.as_slice() == SECOND_REPORT.as_bytes());
     Ok(())
 }
 

@@ -5,6 +5,7 @@ mod line_kinds;
 mod lines;
 mod parsed;
 mod parts;
+mod placed_lines;
 mod report;
 mod script_lines;
 mod sections;

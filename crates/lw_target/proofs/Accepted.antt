@@ -46,7 +46,7 @@ passes_all test Q means before (p ∷ ps) e =
         → cond (not b) (Some (before, p)) (find (λ p. not (test (map (λ q. q.op) p.0) p.1.op)) (with_earlier (before ++ p ∷ []) ps)) ≡ None
         → AllByRecursion (λ (p : Placed). Q p.op) (p ∷ ps)
     at true is rest none = (means (map (λ q. q.op) before) p.op is, rest none)
-    at false is rest wrong = let never : Some (before, p) ≡ None = wrong in cc
+    at false is rest wrong = let never : ◌≡◌ {A = Option (List Placed × Placed)} (Some (before, p)) None = wrong in cc
 
 -- the ops of one client, each with its place
 ops_of_placed : (Q : Op → Type 0) (n : ℕ) (ops : List Op)

@@ -8,3 +8,4 @@ pub mod App
 pub mod Turns
 pub mod Run
 pub mod Sample
+pub mod Answers

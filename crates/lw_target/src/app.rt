@@ -1,5 +1,5 @@
 //! The app: once every client is done it unregisters the devices, makes their callbacks and stops the owners.
-ghost use Rattle.std.specs.Prelude.{◌≡◌, ◌<◌, ◌≤◌, ◌+◌, ◌↔◌, length, vec_len, cond, true, false, nat_lt, count_by, slice_index_or, OnOk, IfOk, IsTrue};
+ghost use Rattle.std.specs.Prelude.{◌≡◌, ◌≢◌, ◌<◌, ◌≤◌, ◌+◌, ◌↔◌, length, vec_len, cond, true, false, nat_lt, count_by, slice_index_or, OnOk, IfOk, IsTrue};
 ghost use Rattle.std.specs.List.{All, list_all};
 
 use crate::acts::Acts;
@@ -15,8 +15,9 @@ pub const APP: u32 = 0;
 /// The app.
 #[derive(Drop)]
 pub struct App {
-    clients: u32,
-    done: u32,
+    pub clients: u32,
+    /// How many clients have told it that they are done.
+    pub done: u32,
     /// Whether it has unregistered the devices.
     pub began: bool,
     /// Of each device whether its callback is owed.
@@ -54,6 +55,8 @@ impl App {
     pub fn run(&mut self, mail: &Mail)
         ensures devices { vec_len self.new.owed ≡ vec_len self.old.owed }
         ensures work { app_work self.new ≡ app_work self.old }
+        ensures done { self.new.done ≤ self.old.done + 1 }
+        ensures others { mail.now.tag.what ≢ What.Done → self.new ≡ self.old }
     {
         if let What::Done = mail.tag.what {
             self.done = self.done.saturating_add(1);
@@ -64,7 +67,9 @@ impl App {
     /// stops the owners and asks to end. Answers whether it listed or sent anything.
     pub fn tick(&mut self, devices: &mut [Device], acts: &mut Acts) -> Result<bool, NoMemory>
         requires { length devices.old ≡ vec_len self.old.owed }
-        ensures { IfOk result (λ worked. Advance self.old self.new acts.old acts.new (cond worked 1 0)) }
+        ensures advance { IfOk result (λ worked. Advance self.old self.new acts.old acts.new (cond worked 1 0)) }
+        ensures early { self.old.done < self.old.clients
+            → (self.new ≡ self.old) × (acts.new ≡ acts.old) × (devices.new ≡ devices.old) }
     {
         if self.ended || self.done < self.clients {
             return Ok(false);

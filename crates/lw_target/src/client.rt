@@ -1,5 +1,5 @@
 //! A client: it does its ops in order, each when it may, gives back its channels and tells the app.
-ghost use Rattle.std.specs.Prelude.{◌≡◌, ◌<◌, ◌≤◌, ◌+◌, ◌++◌, ◌∷◌, [], length, vec_len, cond, true, false, None, Some, Option, OnOk, IfOk, IfSome, MatchOption, slice_get};
+ghost use Rattle.std.specs.Prelude.{◌≡◌, ◌<◌, ◌≤◌, ◌+◌, ◌++◌, ◌∷◌, [], length, vec_len, cond, true, false, None, Some, Option, OnOk, IfOk, IfSome, IsTrue, MatchOption, slice_get};
 ghost use Rattle.std.specs.List.{list_all};
 ghost use Rattle.lw_base.specs.declared.message.What.{What};
 ghost use Rattle.lw_model.specs.Printable.{has_bytes};
@@ -8,6 +8,7 @@ ghost use Rattle.lw_target.specs.Ops.{is_servable, asks_bytes};
 
 use crate::action::{Action, action_of};
 use crate::acts::Acts;
+use crate::admission::Admission;
 use crate::app::APP;
 use crate::channel::Channel;
 use crate::device::Device;
@@ -19,15 +20,6 @@ use std::alloc::Global;
 /// How many ops a client does in one tick.
 const OPS_OF_A_TICK: u32 = 8;
 
-/// What is to become of a request.
-enum Admission {
-    /// The client holds no reference to the device.
-    NoChannel,
-    /// Too many requests are unanswered.
-    Waits,
-    Sends,
-}
-
 /// A client.
 #[derive(Drop)]
 pub struct Client {
@@ -38,9 +30,9 @@ pub struct Client {
     pub next: usize,
     pub channels: Vec<Channel>,
     /// How many channels stand.
-    standing: u32,
+    pub standing: u32,
     /// The requests to any owner that no reply was run for.
-    unanswered: u32,
+    pub unanswered: u32,
     pub closed: bool,
     pub done: bool,
     did: Items<Did>,
@@ -55,6 +47,7 @@ pub struct Client {
 
 impl Client {
     ghost use Rattle.lw_target.specs.Client.{Answered, Progress};
+    ghost use Rattle.lw_target.specs.Answers.{get_answer, put_answer, request_answer, admission_of};
     ghost use Rattle.lw_target.specs.Work.{client_work};
 
     /// The client of thread `thread`, before its first op. The owner of device d is thread `first_owner` + d.
@@ -172,7 +165,8 @@ impl Client {
         acts: &mut Acts,
     ) -> Result<bool, NoMemory>
         requires devices { length devices.old ≡ vec_len self.old.channels }
-        ensures { IfOk result (λ worked. Progress self.old self.new acts.old acts.new (cond worked 1 0)) }
+        ensures progress { IfOk result (λ worked. Progress self.old self.new acts.old acts.new (cond worked 1 0)) }
+        ensures most { OnOk result (self.new.next ≤ self.old.next + 8) }
     {
         let mut worked = false;
         for _ in 0..OPS_OF_A_TICK {
@@ -186,7 +180,9 @@ impl Client {
 
     // Closes once, where all ops are done and no request is unanswered.
     fn close_at_end(&mut self, acts: &mut Acts) -> Result<bool, NoMemory>
-        ensures { IfOk result (λ worked. Progress self.old self.new acts.old acts.new (cond worked 1 0)) }
+        ensures progress { IfOk result (λ worked. Progress self.old self.new acts.old acts.new (cond worked 1 0)) }
+        ensures at_end { IfOk result (λ worked. IsTrue worked → (self.old.next ≡ length self.old.of.ops)
+            × (self.old.unanswered ≡ 0)) }
     {
         if self.closed || self.next < self.of.ops.len() || self.unanswered > 0 {
             return Ok(false);
@@ -203,7 +199,8 @@ impl Client {
 
     // Tells the app once, where it has closed and no channel stands.
     fn tell_app(&mut self, acts: &mut Acts) -> Result<bool, NoMemory>
-        ensures { IfOk result (λ worked. Progress self.old self.new acts.old acts.new (cond worked 1 0)) }
+        ensures progress { IfOk result (λ worked. Progress self.old self.new acts.old acts.new (cond worked 1 0)) }
+        ensures told { IfOk result (λ worked. IsTrue worked → IsTrue self.old.closed × (self.old.standing ≡ 0)) }
     {
         if self.done || !self.closed || self.standing > 0 {
             return Ok(false);
@@ -221,7 +218,8 @@ impl Client {
         acts: &mut Acts,
     ) -> Result<bool, NoMemory>
         requires devices { length devices.old ≡ vec_len self.old.channels }
-        ensures { IfOk result (λ worked. Progress self.old self.new acts.old acts.new (cond worked 1 0)) }
+        ensures progress { IfOk result (λ worked. Progress self.old self.new acts.old acts.new (cond worked 1 0)) }
+        ensures one { IfOk result (λ worked. self.new.next ≡ self.old.next + cond worked 1 0) }
     {
         if self.next == self.of.ops.len() {
             return Ok(false);
@@ -265,6 +263,8 @@ impl Client {
         ensures closed { self.new.closed ≡ self.old.closed }
         ensures done { self.new.done ≡ self.old.done }
         ensures channels { vec_len self.new.channels ≡ vec_len self.old.channels }
+        ensures answer { IfSome (slice_get devices.old image) (λ d.
+            IfSome (slice_get self.old.channels.items image) (λ c. result ≡ get_answer d c)) }
     {
         if devices[image].is_shut() {
             return Answer::Shut;
@@ -286,6 +286,8 @@ impl Client {
         requires { image < vec_len self.old.channels }
         ensures answered { OnOk result (Answered self.old self.new acts.old acts.new 2) }
         ensures waits { IfOk result (λ a. a ≡ None → acts.new ≡ acts.old) }
+        ensures answer { IfOk result (λ a.
+            IfSome (slice_get self.old.channels.items image) (λ c. a ≡ put_answer c)) }
     {
         let channel = self.channels[image as usize];
         if channel.references == 0 {
@@ -322,6 +324,8 @@ impl Client {
         requires asks { IfSome (slice_get self.old.of.ops self.old.next) (λ o. asks_bytes o ≡ true) }
         ensures answered { OnOk result (Answered self.old self.new acts.old acts.new 2) }
         ensures waits { IfOk result (λ a. a ≡ None → acts.new ≡ acts.old) }
+        ensures answer { IfOk result (λ a. IfSome (slice_get self.old.channels.items image) (λ c.
+            a ≡ request_answer self.old.unanswered self.old.of.depth c)) }
     {
         match self.admission(image as usize) {
             Admission::NoChannel => Ok(Some(Answer::NoChannel)),
@@ -340,6 +344,8 @@ impl Client {
 
     fn admission(&self, image: usize) -> Admission
         requires { image < vec_len self.now.channels }
+        ensures { IfSome (slice_get self.now.channels.items image) (λ c.
+            result ≡ admission_of self.now.unanswered self.now.of.depth c) }
     {
         if self.channels[image].references == 0 {
             Admission::NoChannel

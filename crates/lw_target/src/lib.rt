@@ -4,6 +4,7 @@
 
 mod action;
 mod acts;
+mod admission;
 mod app;
 mod channel;
 mod client;

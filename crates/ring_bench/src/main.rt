@@ -24,7 +24,8 @@ fn main(rt: HostRuntime) -> Result<()> {
     let words: Vec<String> = env::args(&rt)?.collect(alloc)?;
     match words.get(1) {
         None => check_storm(&rt, alloc),
-        Some(_) => measure_all(&rt, alloc, words.get(2)),
+        Some(word) if word.as_str() == "measure" => measure_all(&rt, alloc, words.get(2)),
+        Some(_) => Err(anyhow!("the words are none, or: measure MESSAGES")),
     }
 }
 

@@ -1,8 +1,9 @@
 //! The kinds of lines as values, for the loops over lines.
 ghost use Rattle.std.specs.Prelude.{◌≡◌};
 
-use crate::read::kinds::{called, device, did, hop, ran, reply, seen, thread};
+use crate::read::kinds::{called, did, hop, ran, reply, seen};
 use crate::read::lines::Kind;
+use crate::read::placed_lines::{device, thread};
 use crate::read::script_lines::{ClientHead, client, image, op};
 use lw_base::{NoMemory, Tag};
 use lw_model::{Called, DeviceEnd, Did, Hop, ImageOf, Op, Reply, RoleKind, Seen};

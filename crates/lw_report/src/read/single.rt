@@ -2,8 +2,8 @@
 ghost use Rattle.std.specs.Prelude.{◌≡◌};
 ghost use Rattle.lw_report.specs.Once.{fixed_text, number_word, number_least, number_most, pair_word};
 
-use crate::read::kinds::{is_text, number_line, pair_line};
 use crate::read::lines::Kind;
+use crate::read::placed_lines::{is_text, number_line, pair_line};
 use lw_base::NoMemory;
 use lw_model::Home;
 use std::alloc::Global;

@@ -1,6 +1,9 @@
-use Rattle.std.proofs.Common.{cond}
+use Rattle.std.proofs.Common.{cond, ◌≤◌, ◌+◌}
 use Rattle.lw_target.specs.Client.{Progress}
 use Rattle.lw_target.proofs.client.Client.do_some.Given as goal
 
 abbrev pub invariant-loop : goal.invariant-loop
-invariant-loop l = Progress l.initial.self l.self l.initial.acts l.acts (cond l.worked 1 0)
+invariant-loop l = record {
+  progress : Progress l.initial.self l.self l.initial.acts l.acts (cond l.worked 1 0);
+  most : l.self.next ≤ l.initial.self.next + l.counter;
+}
