@@ -1,14 +1,13 @@
 -- What an accepted script has: names, and patterns of some bytes.
-use Rattle.std.proofs.Common.{◌≡◌, ℕ, ◌+◌, ◌<◌, Bool, true, false, cond, ◌&&◌, not, List, [], ◌∷◌, ◌++◌, map, length, flat_map, find, nat_le, Option, Some, None, option_map, is_none, refl, sym, ap, ap₂, ◌∙◌, arith}
+use Rattle.std.proofs.Common.{◌≡◌, ℕ, ◌+◌, ◌<◌, Bool, true, false, cond, ◌&&◌, not, List, [], ◌∷◌, ◌++◌, map, length, find, nat_le, Option, Some, None, option_map, refl, sym, ap, ap₂, ◌∙◌, arith}
 use Rattle.std.specs.List.{list_all, enumerate_from}
-use Rattle.std.proofs.lemmas.Bool.{and_parts, and_from, leb-true, true≢false}
+use Rattle.std.proofs.lemmas.Bool.{and_parts, and_from, leb-true}
 use Rattle.lw_model.specs.declared.script.Script.{Script}
 use Rattle.lw_model.specs.declared.script.ImageOf.{ImageOf}
 use Rattle.lw_model.specs.declared.script.ClientOf.{ClientOf}
 use Rattle.lw_model.specs.declared.script.Op.{Op}
-use Rattle.lw_model.specs.declared.refusal.ScriptRefusal.{ScriptRefusal}
 use Rattle.lw_model.specs.declared.refusal.ScriptRefusal.TheVariants.{Pattern}
-use Rattle.lw_model.specs.ScriptRules.{Placed, is_name, is_name_byte, is_distinct, names_an_image, all_ops, has_names, is_within, is_pattern, placed_ops, with_earlier, first_failing, first_bad_pattern, rule_answers, rule_broken}
+use Rattle.lw_model.specs.ScriptRules.{Placed, is_name, is_name_byte, is_distinct, names_an_image, all_ops, is_within, is_pattern, placed_ops, with_earlier, first_bad_pattern, rule_answers, rule_broken}
 use Rattle.lw_model.proofs.Rules.{names-kept, each-none}
 use Rattle.lw_model.proofs.Passing.{list_all-flat_map}
 

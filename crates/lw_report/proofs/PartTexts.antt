@@ -1,15 +1,13 @@
 -- The text of what was read from the front of a line.
-use Rattle.std.proofs.Common.{◌≡◌, ℕ, zero, suc, ◌+◌, ◌-◌, ◌*◌, ◌^◌, ◌<◌, ◌≤◌, ◌==◌, nat_lt, nat_le, Bool, true, false, cond, ◌&&◌, ◌||◌, ◌⊎◌, not, if◌then◌else◌, List, [], ◌∷◌, ◌++◌, length, take, drop, get_or, flat_map, append_assoc, append-nil, decimal, Option, Some, None, unwrap_or, option_and_then, refl, sym, ap, ap₂, subst, ◌∙◌, inl, inr, arith}
-use Rattle.std.specs.List.{list_all, join_with_byte, prefix_len, position_or_len}
-use Rattle.std.specs.Int.{IsInRange}
+use Rattle.std.proofs.Common.{◌≡◌, ℕ, suc, ◌+◌, ◌<◌, ◌≤◌, ◌==◌, nat_lt, nat_le, Bool, true, false, cond, ◌&&◌, ◌||◌, ◌⊎◌, not, List, [], ◌∷◌, ◌++◌, length, take, drop, get_or, flat_map, append_assoc, decimal, Some, None, unwrap_or, refl, sym, ap, ap₂, subst, ◌∙◌, inl, inr, arith}
+use Rattle.std.specs.List.{list_all, prefix_len, position_or_len}
 use lib.Pointwise.{bytes_decides}
-use Rattle.std.proofs.lemmas.List.{take-append-drop, length-take}
-use Rattle.std.proofs.lemmas.Bool.{and_parts, and_from, leb-true, le-leb, ltb-true, eqb-true, eqb-false, eq-eqb, cases_lt, lt-ltb, le-ltb, false≢true, true≢false}
+use Rattle.std.proofs.lemmas.List.{take-append-drop}
+use Rattle.std.proofs.lemmas.Bool.{and_parts, and_from, leb-true, le-leb, ltb-true, eqb-true, eq-eqb, cases_lt, lt-ltb, le-ltb, false≢true}
 use Rattle.std.proofs.lemmas.Fmt.{decimal-digits_value}
 use Rattle.std.proofs.lemmas.Str.Parse.{IsNumeralModel, IsDigitsTest, FoldsDigits, numerals_by_fold}
 use Rattle.lw_model.specs.ReportText.{line}
-use Rattle.lw_report.specs.LineParts.{after, is_digit, is_no_digit, ends_word, place_of_first, digit_count, word_length, is_plain, value_from, number, spaced, word, is_end, u64_max}
-use Rattle.lw_report.specs.LineKinds.{ended}
+use Rattle.lw_report.specs.LineParts.{after, is_digit, is_no_digit, place_of_first, digit_count, word_length, is_plain, value_from, number, spaced, word, is_end, u64_max}
 use Rattle.lw_report.proofs.Said.{some_parts, if_some}
 use Rattle.lw_report.proofs.TextLemmas.{join-cons}
 

@@ -1,29 +1,21 @@
 -- A report that was read is the text of what it says.
-use Rattle.std.proofs.Common.{◌≡◌, ℕ, zero, suc, ◌+◌, ◌<◌, Bool, true, false, cond, ◌&&◌, if◌then◌else◌, List, [], ◌∷◌, ◌++◌, map, length, flat_map, codes, decimal, append_assoc, append-nil, Option, Some, None, Result, Ok, Err, is_none, refl, sym, ap, ap₂, subst, ◌∙◌, arith}
+use Rattle.std.proofs.Common.{◌≡◌, ℕ, zero, suc, ◌+◌, Bool, true, ◌&&◌, List, [], ◌∷◌, ◌++◌, map, flat_map, codes, decimal, append_assoc, Option, Some, None, Result, Ok, Err, refl, sym, ap, ap₂, subst, ◌∙◌}
 use Rattle.std.specs.List.{list_all, enumerate_from}
 use Rattle.std.proofs.lemmas.Bool.{and_parts}
 use Rattle.std.proofs.lemmas.List.{map-append}
-use Rattle.lw_model.specs.declared.script.Script.{Script}
-use Rattle.lw_model.specs.declared.script.ImageOf.{ImageOf}
 use Rattle.lw_model.specs.declared.script.ClientOf.{ClientOf}
-use Rattle.lw_model.specs.declared.script.Op.{Op}
-use Rattle.lw_model.specs.declared.record.Record.{Record}
 use Rattle.lw_model.specs.declared.record.ThreadRecord.{ThreadRecord}
 use Rattle.lw_model.specs.declared.record.RoleKind.{RoleKind}
 use Rattle.lw_model.specs.declared.record.RoleKind.TheVariants.{App, Client, Owner}
-use Rattle.lw_model.specs.declared.record.Reply.{Reply}
-use Rattle.lw_model.specs.declared.record.Seen.{Seen}
-use Rattle.lw_model.specs.declared.record.DeviceEnd.{DeviceEnd}
-use Rattle.lw_model.specs.declared.record.Home.{Home}
-use Rattle.lw_model.specs.ScriptRules.{is_name, is_pattern, rule_broken}
-use Rattle.lw_model.specs.ReportText.{line, count_of, image_line, op_line, client_line, client_lines as lines_of_client, hop_line, ran_line, did_line, called_line, reply_line, seen_line, thread_line, thread_lines as lines_of_thread, device_line, role_word}
-use Rattle.lw_report.specs.LineKinds.{hop_in, ran_in, did_in, called_in, reply_in, seen_in, thread_in, device_in, image_in, client_in, op_in}
-use Rattle.lw_report.specs.Machine.{State, ◌>>=◌, one, many, many_from, numbered, is_nil}
+use Rattle.lw_model.specs.ScriptRules.{is_name, is_pattern}
+use Rattle.lw_model.specs.ReportText.{line, op_line, client_lines as lines_of_client, hop_line, ran_line, did_line, called_line, reply_line, seen_line, thread_lines as lines_of_thread, role_word}
+use Rattle.lw_report.specs.LineKinds.{hop_in, ran_in, did_in, called_in, reply_in, seen_in, thread_in, client_in, op_in}
+use Rattle.lw_report.specs.Machine.{State, ◌>>=◌, one, many, many_from, numbered}
 use Rattle.lw_report.specs.Report.{client_at, client_lines, role_at, thread_lines, thread_at}
 use Rattle.lw_report.proofs.Said.{read_parts, numbered_all}
 use Rattle.lw_report.proofs.Accepted.{named_length}
-use Rattle.lw_report.proofs.LineTexts.{hop_text, ran_text, did_text, called_text, seen_text, thread_text, device_text}
-use Rattle.lw_report.proofs.ScriptTexts.{image_text, client_text, op_text, reply_text}
+use Rattle.lw_report.proofs.LineTexts.{hop_text, ran_text, did_text, called_text, seen_text, thread_text}
+use Rattle.lw_report.proofs.ScriptTexts.{client_text, op_text, reply_text}
 
 -- lines, each with its line feed
 abbrev pub fed : List (List ℕ) → List (List ℕ)

@@ -1,5 +1,5 @@
 -- The text of the lines of a script, and of replies.
-use Rattle.std.proofs.Common.{◌≡◌, ℕ, ◌<◌, nat_lt, nat_le, Bool, true, false, ◌&&◌, if◌then◌else◌, List, [], ◌∷◌, ◌++◌, codes, length, decimal, Option, Some, None, option_map, Result, Ok, Err, refl, sym, ap, subst, ◌∙◌, arith}
+use Rattle.std.proofs.Common.{◌≡◌, ℕ, ◌<◌, nat_lt, nat_le, Bool, true, false, ◌&&◌, if◌then◌else◌, List, [], ◌∷◌, ◌++◌, codes, length, decimal, Option, Some, None, Result, Ok, Err, refl, sym, ap, subst, arith}
 use Rattle.std.specs.List.{list_all}
 use Rattle.std.specs.Str.{is_utf8}
 use Rattle.std.proofs.lemmas.Bool.{and_parts, leb-true}
@@ -16,10 +16,10 @@ use Rattle.lw_model.specs.ScriptRules.{is_within, is_pattern}
 use Rattle.lw_model.specs.ReportText.{line, image_line, op_words, op_line, replied_words, reply_line}
 use Rattle.lw_report.specs.declared.read.script_lines.ClientHead.{ClientHead}
 use Rattle.lw_report.specs.LineParts.{after, spaced, word, is_end, u32_max, u64_max}
-use Rattle.lw_report.specs.LineKinds.{last32, last64, is_no_capital, last_digits, decoded, bytes_in, replied_in, reply_in, name_of, image_in, client_in, write_in, read_in, plain_form_in, form_in, op_in}
+use Rattle.lw_report.specs.LineKinds.{last64, is_no_capital, last_digits, decoded, bytes_in, replied_in, reply_in, name_of, image_in, client_in, write_in, read_in, plain_form_in, op_in}
 use Rattle.lw_report.proofs.Said.{some_parts, map_parts, if_some}
 use Rattle.lw_report.proofs.PartTexts.{after_text, Tail, tail_end, tail_word, word_text, whole_line}
-use Rattle.lw_report.proofs.LineTexts.{tail32, tail64, last32_text, last64_text, picked, by_end, by32, by64}
+use Rattle.lw_report.proofs.LineTexts.{tail32, tail64, last64_text, picked, by_end, by32, by64}
 use Rattle.lw_report.proofs.HexTexts.{lower_same}
 
 some_is : {A : Type 0} {x y : A} → Some x ≡ Some y → x ≡ y

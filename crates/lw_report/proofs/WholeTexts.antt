@@ -1,5 +1,5 @@
 -- The text of a whole report that was read.
-use Rattle.std.proofs.Common.{◌≡◌, ℕ, ◌+◌, Bool, true, false, ◌&&◌, if◌then◌else◌, List, [], ◌∷◌, ◌++◌, map, length, flat_map, codes, decimal, append_assoc, append-nil, Option, Some, None, Result, Ok, Err, is_none, is_some, refl, sym, ap, ap₂, subst, ◌∙◌, arith}
+use Rattle.std.proofs.Common.{◌≡◌, ℕ, ◌+◌, Bool, true, false, ◌&&◌, if◌then◌else◌, List, [], ◌∷◌, ◌++◌, map, length, flat_map, codes, decimal, append_assoc, append-nil, Option, Some, None, Result, Ok, Err, is_none, is_some, refl, sym, ap, subst, ◌∙◌}
 use Rattle.std.specs.List.{list_all, enumerate_from}
 use Rattle.std.proofs.lemmas.Bool.{and_parts, and_from}
 use Rattle.lw_model.specs.declared.script.Script.{Script}
@@ -21,9 +21,9 @@ use Rattle.lw_report.specs.declared.read.single.NumberLine.{NumberLine}
 use Rattle.lw_report.specs.declared.read.single.NumberLine.TheVariants.{Period, Images, Clients}
 use Rattle.lw_report.specs.declared.read.single.PairLine.TheVariants.{Pool, Left}
 use Rattle.lw_report.specs.LineKinds.{text_in, image_in, device_in}
-use Rattle.lw_report.specs.Once.{fixed_text, fixed_in, number_word, number_least, number_most, number_of_in, pair_word, pair_of_in, reactors_in}
+use Rattle.lw_report.specs.Once.{fixed_text, fixed_in, number_word, number_least, number_most, number_of_in, pair_of_in, reactors_in}
 use Rattle.lw_report.specs.Pieces.{is_feed, put_on, pieces}
-use Rattle.lw_report.specs.Machine.{State, ◌>>=◌, one, numbered, is_nil}
+use Rattle.lw_report.specs.Machine.{State, one, numbered, is_nil}
 use Rattle.lw_report.specs.Report.{list_at, client_at, script_at, thread_at, threads_at, devices_at, rest_at, report_at, reading}
 use Rattle.lw_report.specs.Parsed.{contents_of, IsStatic}
 use Rattle.lw_report.proofs.Said.{read_parts, if_some, if_ok, numbered_all}
