@@ -18,7 +18,7 @@ after_text text l rest e =
 
 -- ---- numbers
 
-AreDigits : List ℕ → Type 0
+unfoldable pub AreDigits : List ℕ → Type 0
 AreDigits ds = list_all is_digit ds ≡ true
 
 digits_test : IsDigitsTest AreDigits
@@ -32,11 +32,11 @@ digits_test = record {
 digits_fold : FoldsDigits value_from
 digits_fold = record { empty = λ n. refl; more = λ n c cs h. refl }
 
-numerals : IsNumeralModel AreDigits (value_from 0)
+pub numerals : IsNumeralModel AreDigits (value_from 0)
 numerals = numerals_by_fold AreDigits digits_test value_from digits_fold
 
 -- what was found first is how many stand before it
-place_is : (test : ℕ → Bool) (bs : List ℕ) → place_of_first test bs ≡ position_or_len test bs
+pub place_is : (test : ℕ → Bool) (bs : List ℕ) → place_of_first test bs ≡ position_or_len test bs
 place_is test bs = at (cases_lt (position_or_len test bs) (length bs))
   where
     none : (n m : ℕ) → m ≤ n → n ≤ m → unwrap_or (cond (nat_lt n m) (Some n) None) m ≡ n

@@ -1,6 +1,7 @@
 //! A report read back: a machine over lines.
 mod contents;
 mod kinds;
+mod laws;
 mod line_kinds;
 mod lines;
 mod parsed;
