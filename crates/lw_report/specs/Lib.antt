@@ -5,3 +5,4 @@ pub mod Pieces
 pub mod Machine
 pub mod Report
 pub mod Parsed
+pub mod Ranges

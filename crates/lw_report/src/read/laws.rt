@@ -1,9 +1,11 @@
 //! laws
-ghost use Rattle.std.specs.Prelude.{◌≡◌, ℕ, List, Some, length, ◌++◌, ◌∷◌, [], flat_map, not, true, ◌<◌};
-ghost use Rattle.std.specs.List.{list_all};
-ghost use Rattle.lw_report.specs.LineParts.{word, ends_word};
+ghost use Rattle.std.specs.Prelude.{◌≡◌, ℕ, List, Some, ◌++◌, ◌∷◌, [], nat_lt, true};
+ghost use Rattle.lw_model.specs.declared.record.Called.{Called};
+ghost use Rattle.lw_model.specs.ReportText.{called_line};
+ghost use Rattle.lw_report.specs.LineKinds.{called_in};
+ghost use Rattle.lw_report.specs.Ranges.{CalledFits};
 
 /// try
 pub fn try_law()
-    ensures { (w : List ℕ) (ws : List (List ℕ)) → 0 < length w → list_all (λ b. not (ends_word b)) w ≡ true → word (flat_map (λ w. 32 ∷ w) (w ∷ ws) ++ 10 ∷ []) ≡ Some (w, flat_map (λ w. 32 ∷ w) ws ++ 10 ∷ []) }
+    ensures { (images : ℕ) (x : Called) → CalledFits x → nat_lt x.device images ≡ true → called_in images (called_line x ++ 10 ∷ []) ≡ Some x }
 {}
