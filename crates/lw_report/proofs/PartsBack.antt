@@ -49,7 +49,7 @@ digits_counted ds (b ∷ rest) all h =
     twice [] all = refl
     twice (x ∷ xs) all = let k = and_parts (is_digit x) (list_all is_digit xs) all in one (is_digit x) (list_all (λ y. not (is_no_digit y)) xs) k.0 (twice xs k.1)
 
-are_all : (ds : List ℕ) → AreDigits ds → list_all is_digit ds ≡ true
+pub are_all : (ds : List ℕ) → AreDigits ds → list_all is_digit ds ≡ true
 unfolding AreDigits
 are_all ds h = h
 

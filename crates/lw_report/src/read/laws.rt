@@ -1,11 +1,12 @@
 //! laws
-ghost use Rattle.std.specs.Prelude.{◌≡◌, ℕ, List, Some, ◌++◌, ◌∷◌, [], nat_lt, true};
-ghost use Rattle.lw_model.specs.declared.record.Called.{Called};
-ghost use Rattle.lw_model.specs.ReportText.{called_line};
-ghost use Rattle.lw_report.specs.LineKinds.{called_in};
-ghost use Rattle.lw_report.specs.Ranges.{CalledFits};
+ghost use Rattle.std.specs.Prelude.{◌≡◌, ℕ, List, Some, ◌++◌, ◌∷◌, [], true};
+ghost use Rattle.lw_model.specs.declared.script.Op.{Op};
+ghost use Rattle.lw_model.specs.ReportText.{op_line};
+ghost use Rattle.lw_model.specs.ScriptRules.{is_pattern};
+ghost use Rattle.lw_report.specs.LineKinds.{op_in};
+ghost use Rattle.lw_report.specs.Ranges.{OpFits};
 
 /// try
 pub fn try_law()
-    ensures { (images : ℕ) (x : Called) → CalledFits x → nat_lt x.device images ≡ true → called_in images (called_line x ++ 10 ∷ []) ≡ Some x }
+    ensures { (o : Op) → OpFits o → is_pattern o ≡ true → op_in (op_line o ++ 10 ∷ []) ≡ Some o }
 {}
