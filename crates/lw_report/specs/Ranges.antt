@@ -1,5 +1,5 @@
--- Numbers that fit their types: what every record of the program has, said of plain data.
-use Rattle.std.specs.Prelude.{ℕ, ◌≤◌, ◌<◌, List}
+-- Numbers that fit their types: what every record that a program holds has, said of plain data.
+use Rattle.std.specs.Prelude.{ℕ, ◌+◌, ◌≤◌, ◌<◌, List, length}
 use Rattle.std.specs.List.{AllByRecursion}
 use Rattle.hex.specs.Hex.{IsBytes}
 use Rattle.lw_base.specs.declared.message.What.{What}
@@ -109,15 +109,16 @@ abbrev pub ImageFits : ImageOf → Type 0
 ImageFits i = Fits32 i.block × Fits64 i.blocks
 
 abbrev pub ClientFits : ClientOf → Type 0
-ClientFits c = Fits32 c.depth × AllByRecursion OpFits c.ops
+ClientFits c = Fits32 c.depth × AllByRecursion OpFits c.ops × Fits64 (length c.ops)
 
 pub record ScriptFits (s : Script) : Type 0 where
   pub images : AllByRecursion ImageFits s.images
   pub clients : AllByRecursion ClientFits s.clients
   pub small : Fits32 s.small
   pub large : Fits32 s.large
+  pub count : Fits64 (1 + length s.clients + length s.images)
 
--- each number fits its type
+-- each number fits its type, and so do the lengths of the lists that are counted
 pub record InRange (c : Contents) : Type 0 where
   pub script : ScriptFits c.script
   pub threads : AllByRecursion ThreadFits c.threads

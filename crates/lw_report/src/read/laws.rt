@@ -1,12 +1,14 @@
 //! laws
-ghost use Rattle.std.specs.Prelude.{◌≡◌, ℕ, List, Some, ◌++◌, ◌∷◌, [], true};
-ghost use Rattle.lw_model.specs.declared.script.Op.{Op};
-ghost use Rattle.lw_model.specs.ReportText.{op_line};
-ghost use Rattle.lw_model.specs.ScriptRules.{is_pattern};
-ghost use Rattle.lw_report.specs.LineKinds.{op_in};
-ghost use Rattle.lw_report.specs.Ranges.{OpFits};
+ghost use Rattle.std.specs.Prelude.{◌≡◌, ℕ, List, Ok, ◌++◌, ◌∷◌, [], map, true};
+ghost use Rattle.std.specs.List.{list_all};
+ghost use Rattle.lw_model.specs.declared.script.ClientOf.{ClientOf};
+ghost use Rattle.lw_model.specs.ReportText.{client_lines};
+ghost use Rattle.lw_model.specs.ScriptRules.{is_pattern, is_name};
+ghost use Rattle.lw_report.specs.Report.{client_at};
+ghost use Rattle.lw_report.specs.Machine.{State};
+ghost use Rattle.lw_report.specs.Ranges.{ClientFits};
 
 /// try
 pub fn try_law()
-    ensures { (o : Op) → OpFits o → is_pattern o ≡ true → op_in (op_line o ++ 10 ∷ []) ≡ Some o }
+    ensures { (s : State) (c : ClientOf) (R : List (List ℕ)) → ClientFits c → is_name c.name ≡ true → list_all is_pattern c.ops ≡ true → s.lines ≡ map (λ l. l ++ 10 ∷ []) (client_lines c) ++ R → (t : State) × (t.lines ≡ R) × (client_at s ≡ Ok (c, t)) }
 {}
