@@ -141,7 +141,7 @@ pub record NextThread (images : ℕ) (R : List (List ℕ)) : Type 0 where
   pub reply : Stops reply_in R
   pub seen : Stops seen_in R
 
-role_is : (clients n : ℕ) (r : RoleKind) → has_role clients n r ≡ true → r ≡ role_at clients n
+pub role_is : (clients n : ℕ) (r : RoleKind) → has_role clients n r ≡ true → r ≡ role_at clients n
 role_is clients n App h = ap (λ b. if b then App else (if nat_le n clients then Client else Owner)) (sym h)
 role_is clients n Client h =
     let k = and_parts (nat_le 1 n) (nat_le n clients) h in
@@ -154,12 +154,12 @@ empty_is : {X : Type 0} (xs : List X) → is_empty xs ≡ true → xs ≡ []
 empty_is [] h = refl
 empty_is (x ∷ xs) h = let wrong : false ≡ true = h in cc
 
-both_fit : {X : Type 0} (P : X → Type 0) (p : X → Bool) (xs : List X) → AllByRecursion P xs → list_all p xs ≡ true → AllByRecursion (λ x. P x × (p x ≡ true)) xs
+pub both_fit : {X : Type 0} (P : X → Type 0) (p : X → Bool) (xs : List X) → AllByRecursion P xs → list_all p xs ≡ true → AllByRecursion (λ x. P x × (p x ≡ true)) xs
 both_fit P p [] fit h = tt
 both_fit P p (x ∷ xs) fit h = let k = and_parts (p x) (list_all p xs) h in ((fit.0, k.0), both_fit P p xs fit.1 k.1)
 
 -- the lines under clients alone
-own_read : (role : RoleKind) (x : ThreadRecord) (images : ℕ) (s : State) (R : List (List ℕ)) → may_reply role x ≡ true → AllByRecursion ReplyFits x.replies → AllByRecursion SeenFits x.seen → NextThread images R
+pub own_read : (role : RoleKind) (x : ThreadRecord) (images : ℕ) (s : State) (R : List (List ℕ)) → may_reply role x ≡ true → AllByRecursion ReplyFits x.replies → AllByRecursion SeenFits x.seen → NextThread images R
     → s.lines ≡ fed (map reply_line x.replies) ++ (fed (map seen_line x.seen) ++ R) → (t : State) × (t.lines ≡ R) × (((x.replies, x.seen), t) ≡ client_lines role s)
 own_read Client x images s R may replies seen next e =
     let k = and_parts (list_all (λ (r : Reply). has_bytes r.answer) x.replies) (list_all (λ (q : Seen). has_results q.results) x.seen) may in

@@ -54,13 +54,13 @@ list_took {X = X} k part p lines each s t xs fit e =
 
 -- ---- the script
 
-abbrev images_lines : Script → List (List ℕ)
+abbrev pub images_lines : Script → List (List ℕ)
 images_lines s = line (codes "images" ∷ count_of s.images ∷ []) ∷ map image_line s.images
 
-abbrev clients_lines : Script → List (List ℕ)
+abbrev pub clients_lines : Script → List (List ℕ)
 clients_lines s = line (codes "clients" ∷ count_of s.clients ∷ []) ∷ flat_map client_lines s.clients
 
-abbrev pool_line : Script → List ℕ
+abbrev pub pool_line : Script → List ℕ
 pool_line s = line (codes "pool" ∷ decimal s.small ∷ decimal s.large ∷ [])
 
 all_and : {X : Type 0} (p q : X → Bool) (xs : List X) → list_all p xs ≡ true → list_all q xs ≡ true → list_all (λ x. p x && q x) xs ≡ true
@@ -70,7 +70,7 @@ all_and p q (x ∷ xs) a b =
     let k = and_parts (q x) (list_all q xs) b in
     and_from (p x && q x) (list_all (λ y. p y && q y) xs) (and_from (p x) (q x) h.0 k.0) (all_and p q xs h.1 k.1)
 
-none_is : {X : Type 0} (o : Option X) → is_none o ≡ true → o ≡ None
+pub none_is : {X : Type 0} (o : Option X) → is_none o ≡ true → o ≡ None
 none_is None e = refl
 none_is (Some x) e = let wrong : false ≡ true = e in cc
 
@@ -99,16 +99,16 @@ script_took s t script e =
 
 -- ---- the whole
 
-abbrev threads_lines : Contents → List (List ℕ)
+abbrev pub threads_lines : Contents → List (List ℕ)
 threads_lines c = flat_map (λ p. thread_lines p.0 p.1) (enumerate_from 0 c.threads)
 
-abbrev devices_lines : Contents → List (List ℕ)
+abbrev pub devices_lines : Contents → List (List ℕ)
 devices_lines c = map (λ p. device_line p.0 p.1) (enumerate_from 0 c.devices)
 
-abbrev last_lines : Contents → List (List ℕ)
+abbrev pub last_lines : Contents → List (List ℕ)
 last_lines c = line (codes "home" ∷ decimal c.home.small ∷ decimal c.home.large ∷ []) ∷ codes "end" ∷ []
 
-abbrev first_lines : Scheduler → Contents → List (List ℕ)
+abbrev pub first_lines : Scheduler → Contents → List (List ℕ)
 first_lines scheduler c =
     (codes "lightrun report 1"
     ∷ line (codes "scheduler" ∷ scheduler_word scheduler ∷ [])
@@ -118,11 +118,11 @@ first_lines scheduler c =
     ∷ [])
 
 -- the lines of a record with these fields
-abbrev lines_from : Scheduler → Option Span → List Round → Contents → List (List ℕ)
+abbrev pub lines_from : Scheduler → Option Span → List Round → Contents → List (List ℕ)
 lines_from scheduler span rounds c =
     first_lines scheduler c ++ images_lines c.script ++ clients_lines c.script ++ threads_lines c ++ devices_lines c ++ clock_lines span ++ flat_map round_lines rounds ++ last_lines c
 
-lines_are : (r : Record) → IsStatic r → lines_of r ≡ lines_from Static None [] (contents_of r)
+pub lines_are : (r : Record) → IsStatic r → lines_of r ≡ lines_from Static None [] (contents_of r)
 lines_are r is =
     ap (λ x. lines_from x r.span r.rounds (contents_of r)) is.scheduler
     ∙ ap (λ x. lines_from Static x r.rounds (contents_of r)) is.span
@@ -154,7 +154,7 @@ devices_took script s t xs e =
     (numbered_took (λ d. one (device_in d)) (λ x. true) (λ n x. device_line n x ∷ []) (λ n s t x q h. one_took (device_in n) (device_line n) s t x (λ l i. device_text n l x i) h) (length script.images) 0 s t xs (all_true xs) e)
 
 -- what stands behind the script
-abbrev rest_lines : Contents → List (List ℕ)
+abbrev pub rest_lines : Contents → List (List ℕ)
 rest_lines c = threads_lines c ++ devices_lines c ++ [] ++ [] ++ last_lines c
 
 record RestSaid (s t : State) (reactors period : ℕ) (script : Script) (c : Contents) : Type 0 where
@@ -184,7 +184,7 @@ rest_said reactors period script s t c e =
     subst (λ (q : Contents × State). RestSaid s q.1 reactors period script q.0) last.1 said
 
 -- the four lines before the script
-front : ℕ → ℕ → List (List ℕ)
+unfoldable pub front : ℕ → ℕ → List (List ℕ)
 front reactors period = codes "lightrun report 1" ∷ codes "scheduler static" ∷ line (codes "reactors" ∷ decimal reactors ∷ []) ∷ line (codes "period" ∷ decimal period ∷ []) ∷ []
 
 front_took : (s a b r p : State) (x y : FixedLine) (reactors period : ℕ) → one (fixed_in Title) s ≡ Ok (x, a) → one (fixed_in StaticScheduler) a ≡ Ok (y, b) → one reactors_in b ≡ Ok (reactors, r) → one (number_of_in Period) r ≡ Ok (period, p)
@@ -197,7 +197,7 @@ front_took s a b r p x y reactors period e1 e2 e3 e4 =
     took_both s r p (codes "lightrun report 1" ∷ codes "scheduler static" ∷ third ∷ []) (line (codes "period" ∷ decimal period ∷ []) ∷ []) h2 (number_took Period r p period e4)
 
 -- the parts of a static report, one behind the other, are its lines
-together : (xs : List (List ℕ)) (c : Contents) → xs ≡ first_lines Static c ++ images_lines c.script ++ clients_lines c.script → xs ++ rest_lines c ≡ lines_from Static None [] c
+pub together : (xs : List (List ℕ)) (c : Contents) → xs ≡ first_lines Static c ++ images_lines c.script ++ clients_lines c.script → xs ++ rest_lines c ≡ lines_from Static None [] c
 together xs c e =
     ap (λ q. q ++ rest_lines c) e ∙ spread (first_lines Static c ++ images_lines c.script ++ clients_lines c.script) (threads_lines c) (devices_lines c) (last_lines c)
   where
@@ -206,7 +206,7 @@ together xs c e =
         sym (append_assoc a (b ++ d ++ [] ++ []) z)
         ∙ ap (λ q. q ++ z) (sym (append_assoc a (b ++ d ++ []) []) ∙ ap (λ q. q ++ []) (sym (append_assoc a (b ++ d) []) ∙ ap (λ q. q ++ []) (sym (append_assoc a b d))))
 
-script_front : (c : Contents) → front c.reactors c.period ++ ((pool_line c.script ∷ []) ++ images_lines c.script ++ clients_lines c.script) ≡ first_lines Static c ++ images_lines c.script ++ clients_lines c.script
+pub script_front : (c : Contents) → front c.reactors c.period ++ ((pool_line c.script ∷ []) ++ images_lines c.script ++ clients_lines c.script) ≡ first_lines Static c ++ images_lines c.script ++ clients_lines c.script
 unfolding front
 script_front c = refl
 
@@ -236,7 +236,7 @@ report_took s t c e =
 -- ---- from lines to the text
 
 -- pieces put together
-abbrev joined : List (List ℕ) → List ℕ
+abbrev pub joined : List (List ℕ) → List ℕ
 joined ps = flat_map (λ (p : List ℕ). p) ps
 
 joined-put_on : (b : ℕ) (ps : List (List ℕ)) → joined (put_on b ps) ≡ b ∷ joined ps
@@ -251,7 +251,7 @@ joined-pieces (b ∷ bs) = at (is_feed b) (joined-pieces bs)
     at true e = ap (λ q. b ∷ q) e
     at false e = joined-put_on b (pieces bs) ∙ ap (λ q. b ∷ q) e
 
-joined-fed : (ls : List (List ℕ)) → joined (fed ls) ≡ text_of_lines ls
+pub joined-fed : (ls : List (List ℕ)) → joined (fed ls) ≡ text_of_lines ls
 joined-fed [] = refl
 joined-fed (l ∷ ls) = ap (λ q. (l ++ 10 ∷ []) ++ q) (joined-fed ls)
 

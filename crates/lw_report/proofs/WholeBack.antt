@@ -1,0 +1,256 @@
+-- A whole report is read back.
+use Rattle.std.proofs.Common.{◌≡◌, ℕ, ◌+◌, ◌<◌, ◌≤◌, ◌==◌, nat_le, Bool, true, false, ◌&&◌, if◌then◌else◌, List, [], ◌∷◌, ◌++◌, map, length, flat_map, codes, decimal, append_assoc, append-nil, Option, Some, None, Result, Ok, Err, is_none, refl, sym, ap, ap₂, subst, ◌∙◌, arith}
+use Rattle.std.specs.List.{list_all, enumerate_from, AllByRecursion}
+use Rattle.std.proofs.lemmas.Bool.{and_parts, and_from, leb-true, le-leb, eqb-true}
+use Rattle.lw_model.specs.declared.script.Script.{Script}
+use Rattle.lw_model.specs.declared.script.ImageOf.{ImageOf}
+use Rattle.lw_model.specs.declared.script.ClientOf.{ClientOf}
+use Rattle.lw_model.specs.declared.record.Record.{Record}
+use Rattle.lw_model.specs.declared.record.Scheduler.TheVariants.{Static}
+use Rattle.lw_model.specs.declared.record.ThreadRecord.{ThreadRecord}
+use Rattle.lw_model.specs.declared.record.DeviceEnd.{DeviceEnd}
+use Rattle.lw_model.specs.declared.record.Home.{Home}
+use Rattle.lw_model.specs.ScriptRules.{is_name, is_pattern, is_within, rule_broken}
+use Rattle.lw_model.specs.Printable.{is_printable_thread, is_printable}
+use Rattle.lw_model.specs.ReportText.{line, count_of, image_line, client_lines, thread_lines, device_line}
+use Rattle.lw_report.specs.declared.read.contents.Contents.{Contents}
+use Rattle.lw_report.specs.declared.read.single.FixedLine.{FixedLine}
+use Rattle.lw_report.specs.declared.read.single.FixedLine.TheVariants.{Title, StaticScheduler, End}
+use Rattle.lw_report.specs.declared.read.single.NumberLine.{NumberLine}
+use Rattle.lw_report.specs.declared.read.single.NumberLine.TheVariants.{Period, Images, Clients}
+use Rattle.lw_report.specs.declared.read.single.PairLine.TheVariants.{Pool, Left}
+use Rattle.lw_report.specs.LineParts.{u64_max}
+use Rattle.lw_report.specs.LineKinds.{image_in, device_in}
+use Rattle.lw_report.specs.Once.{fixed_text, fixed_in, number_word, number_least, number_most, number_of_in, pair_of_in, reactors_in}
+use Rattle.lw_report.specs.Machine.{State, ◌>>=◌, one, numbered, is_nil}
+use Rattle.lw_report.specs.Report.{list_at, client_at, accepted, script_at, thread_at, threads_at, devices_at, finished, rest_at, report_at}
+use Rattle.lw_report.specs.Ranges.{Fits32, Fits64, ImageFits, ClientFits, ScriptFits, ThreadFits, DeviceFits, InRange}
+use Rattle.lw_report.proofs.Reading.{state}
+use Rattle.lw_report.proofs.Accepted.{images_named, clients_named, patterns_fit}
+use Rattle.lw_report.proofs.ReportTexts.{fed, one_by_one, one_by_number, by_item}
+use Rattle.lw_report.proofs.WholeTexts.{images_lines, clients_lines, pool_line, threads_lines, devices_lines, last_lines, rest_lines, front, script_front, together, lines_from, none_is}
+use Rattle.lw_report.proofs.LinesBack.{counted_back, pair_back, device_back}
+use Rattle.lw_report.proofs.ScriptBack.{image_back}
+use Rattle.lw_report.proofs.MachineBack.{fed_both, one_back, AllNumbered, Back, numbered_back, Any, client_read, NextThread}
+use Rattle.lw_report.proofs.ThreadBack.{thread_read, next_thread, next_device, next_home}
+
+-- ---- lists behind the line that counts them
+
+list_back : {X : Type 0} (k : NumberLine) (part : ℕ → State → Result (X × State) ℕ) (lines : ℕ → X → List (List ℕ)) (Fits : ℕ → X → Type 0)
+    → ((n : ℕ) (x : X) (s : State) (R : List (List ℕ)) → Fits n x → s.lines ≡ fed (lines n x) ++ R → Back (part n s) x R)
+    → (xs : List X) (s : State) (R : List (List ℕ)) → AllNumbered Fits 0 xs → Fits64 (length xs) → is_within (number_least k) (number_most k) (length xs) ≡ true
+    → s.lines ≡ (line (number_word k ∷ count_of xs ∷ []) ++ 10 ∷ []) ∷ (fed (flat_map (λ q. lines q.0 q.1) (enumerate_from 0 xs)) ++ R) → Back (list_at k part s) xs R
+list_back {X = X} k part lines Fits each xs s R fit small within e =
+    let rest = fed (flat_map (λ (q : ℕ × X). lines q.0 q.1) (enumerate_from 0 xs)) ++ R in
+    let a = one_back (number_of_in k) s (line (number_word k ∷ count_of xs ∷ []) ++ 10 ∷ []) rest (length xs) e (counted_back (number_word k) (number_least k) (number_most k) (length xs) small within) in
+    let b = numbered_back part lines Fits Any (λ n x s R h q e. each n x s R h e) (λ n x R. tt) xs 0 (state (s.line + 1) rest) R fit tt refl in
+    (b.0, b.1, ap (λ (r : Result (ℕ × State) ℕ). r >>= (λ c. numbered c.0 0 part c.1)) a ∙ b.2)
+
+-- ---- the script
+
+abbrev ImageBack : ℕ → ImageOf → Type 0
+ImageBack n i = ImageFits i × (is_name i.name ≡ true)
+
+images_fit : (n : ℕ) (is : List ImageOf) → AllByRecursion ImageFits is → list_all (λ (i : ImageOf). is_name i.name) is ≡ true → AllNumbered ImageBack n is
+images_fit n [] fit named = tt
+images_fit n (i ∷ is) fit named = let k = and_parts (is_name i.name) (list_all (λ (j : ImageOf). is_name j.name) is) named in ((fit.0, k.0), images_fit (n + 1) is fit.1 k.1)
+
+record ClientBack (n : ℕ) (c : ClientOf) : Type 0 where
+  fit : ClientFits c
+  named : is_name c.name ≡ true
+  long : list_all is_pattern c.ops ≡ true
+
+clients_fit : (n : ℕ) (cs : List ClientOf) → AllByRecursion ClientFits cs → list_all (λ (c : ClientOf). is_name c.name) cs ≡ true → list_all (λ (c : ClientOf). list_all is_pattern c.ops) cs ≡ true → AllNumbered ClientBack n cs
+clients_fit n [] fit named long = tt
+clients_fit n (c ∷ cs) fit named long =
+    let k = and_parts (is_name c.name) (list_all (λ (d : ClientOf). is_name d.name) cs) named in
+    let m = and_parts (list_all is_pattern c.ops) (list_all (λ (d : ClientOf). list_all is_pattern d.ops) cs) long in
+    (record { fit = fit.0; named = k.0; long = m.0 }, clients_fit (n + 1) cs fit.1 k.1 m.1)
+
+counted_within : (n : ℕ) → Fits64 n → is_within 0 u64_max n ≡ true
+counted_within n h = and_from (nat_le 0 n) (nat_le n u64_max) (le-leb 0 n (omega arith)) (le-leb n u64_max h)
+
+script_read : (s : State) (script : Script) (R : List (List ℕ)) → ScriptFits script → rule_broken script ≡ None
+    → s.lines ≡ fed ((pool_line script ∷ []) ++ images_lines script ++ clients_lines script) ++ R → Back (script_at s) script R
+unfolding script_at
+script_read s script R fit kept e =
+    let clients = fed (clients_lines script) ++ R in
+    let images = fed (images_lines script) ++ clients in
+    let split : fed ((pool_line script ∷ []) ++ images_lines script ++ clients_lines script) ++ R ≡ (pool_line script ++ 10 ∷ []) ∷ images =
+    fed_both ((pool_line script ∷ []) ++ images_lines script) (clients_lines script) R ∙ fed_both (pool_line script ∷ []) (images_lines script) clients in
+    let a = one_back (pair_of_in Pool) s (pool_line script ++ 10 ∷ []) images (record { small = script.small; large = script.large }) (e ∙ split) (pair_back (codes "pool") (record { small = script.small; large = script.large }) fit.small fit.large) in
+    let s1 = state (s.line + 1) images in
+    let b = list_back Images (λ n. one image_in) (λ n i. image_line i ∷ []) ImageBack
+    (λ n i s R h e. (state (s.line + 1) R, refl, one_back image_in s (image_line i ++ 10 ∷ []) R i e (image_back i h.0 h.1)))
+    script.images s1 clients (images_fit 0 script.images fit.images (images_named script kept)) (omega (arith, fit.count)) (counted_within (length script.images) (omega (arith, fit.count)))
+    (ap (λ ls. (line (codes "images" ∷ count_of script.images ∷ []) ++ 10 ∷ []) ∷ (fed ls ++ clients)) (sym (one_by_one image_line 0 script.images))) in
+    let c = list_back Clients (λ n. client_at) (λ n x. client_lines x) ClientBack
+    (λ n x s R h e. client_read s x R h.fit h.named h.long e)
+    script.clients b.0 R (clients_fit 0 script.clients fit.clients (clients_named script kept) (patterns_fit script kept)) (omega (arith, fit.count)) (counted_within (length script.clients) (omega (arith, fit.count)))
+    (b.1 ∙ ap (λ ls. (line (codes "clients" ∷ count_of script.clients ∷ []) ++ 10 ∷ []) ∷ (fed ls ++ R)) (sym (by_item client_lines 0 script.clients))) in
+    (
+      c.0,
+      c.1,
+      ap (λ (q : Result (Home × State) ℕ). q >>= (λ p. list_at Images (λ n. one image_in) p.1 >>= (λ i. list_at Clients (λ n. client_at) i.1 >>= (λ k. accepted (record { images = i.0; clients = k.0; small = p.0.small; large = p.0.large }) k.1)))) a
+      ∙ ap (λ (q : Result (List ImageOf × State) ℕ). q >>= (λ i. list_at Clients (λ n. client_at) i.1 >>= (λ k. accepted (record { images = i.0; clients = k.0; small = script.small; large = script.large }) k.1))) b.2
+      ∙ ap (λ (q : Result (List ClientOf × State) ℕ). q >>= (λ k. accepted (record { images = script.images; clients = k.0; small = script.small; large = script.large }) k.1)) c.2
+      ∙ ap (λ o. if is_none o then Ok (script, c.0) else Err c.0.line) kept,
+    )
+
+-- ---- threads and devices
+
+record ThreadBack (script : Script) (n : ℕ) (x : ThreadRecord) : Type 0 where
+  fit : ThreadFits x
+  printable : is_printable_thread script n x ≡ true
+  small : Fits64 n
+
+threads_fit : (script : Script) (n : ℕ) (xs : List ThreadRecord) → AllByRecursion ThreadFits xs → list_all (λ p. is_printable_thread script p.0 p.1) (enumerate_from n xs) ≡ true → Fits64 (n + length xs) → AllNumbered (ThreadBack script) n xs
+threads_fit script n [] fit all small = tt
+threads_fit script n (x ∷ xs) fit all small =
+    let k = and_parts (is_printable_thread script n x) (list_all (λ p. is_printable_thread script p.0 p.1) (enumerate_from (n + 1) xs)) all in
+    (record { fit = fit.0; printable = k.0; small = omega (arith, small) }, threads_fit script (n + 1) xs fit.1 k.1 (omega (arith, small)))
+
+abbrev DeviceBack : ℕ → DeviceEnd → Type 0
+DeviceBack n d = DeviceFits d × Fits64 n
+
+devices_fit : (n : ℕ) (ds : List DeviceEnd) → AllByRecursion DeviceFits ds → Fits64 (n + length ds) → AllNumbered DeviceBack n ds
+devices_fit n [] fit small = tt
+devices_fit n (d ∷ ds) fit small = ((fit.0, omega (arith, small)), devices_fit (n + 1) ds fit.1 (omega (arith, small)))
+
+threads_read : (script : Script) (xs : List ThreadRecord) (s : State) (R : List (List ℕ)) → AllNumbered (ThreadBack script) 0 xs → length xs ≡ 1 + length script.clients + length script.images → NextThread (length script.images) R
+    → s.lines ≡ fed (flat_map (λ p. thread_lines p.0 p.1) (enumerate_from 0 xs)) ++ R → Back (threads_at script s) xs R
+unfolding threads_at
+threads_read script xs s R fit count next e =
+    subst (λ k. Back (numbered k 0 (thread_at (length script.clients) (length script.images)) s) xs R) count
+    (numbered_back (thread_at (length script.clients) (length script.images)) thread_lines (ThreadBack script) (NextThread (length script.images))
+    (λ n x s R h q e. thread_read script n x s R h.fit h.printable h.small q e) (λ n x R. next_thread (length script.images) n x R) xs 0 s R fit next e)
+
+devices_read : (script : Script) (ds : List DeviceEnd) (s : State) (R : List (List ℕ)) → AllNumbered DeviceBack 0 ds → length ds ≡ length script.images → s.lines ≡ fed (map (λ p. device_line p.0 p.1) (enumerate_from 0 ds)) ++ R → Back (devices_at script s) ds R
+unfolding devices_at
+devices_read script ds s R fit count e =
+    subst (λ k. Back (numbered k 0 (λ d. one (device_in d)) s) ds R) count
+    (numbered_back (λ d. one (device_in d)) (λ n d. device_line n d ∷ []) DeviceBack Any
+    (λ n d s R h q e. (state (s.line + 1) R, refl, one_back (device_in n) s (device_line n d ++ 10 ∷ []) R d e (device_back n d h.1 h.0)))
+    (λ n d R. tt) ds 0 s R fit tt (e ∙ ap (λ ls. fed ls ++ R) (sym (one_by_number device_line 0 ds))))
+
+-- what stands behind the threads' lines
+device_next : (images : ℕ) (n : ℕ) (ds : List DeviceEnd) (small large : ℕ) (R : List (List ℕ)) → NextThread images (fed (map (λ p. device_line p.0 p.1) (enumerate_from n ds)) ++ ((line (codes "home" ∷ decimal small ∷ decimal large ∷ []) ++ 10 ∷ []) ∷ R))
+device_next images n [] small large R = next_home images small large R
+device_next images n (d ∷ ds) small large R = next_device images n d (fed (map (λ p. device_line p.0 p.1) (enumerate_from (n + 1) ds)) ++ ((line (codes "home" ∷ decimal small ∷ decimal large ∷ []) ++ 10 ∷ []) ∷ R))
+
+-- ---- the whole
+
+record ContentsFit (c : Contents) : Type 0 where
+  range : InRange c
+  kept : rule_broken c.script ≡ None
+  reactors : is_within 1 16 c.reactors ≡ true
+  period : is_within 1 1000000000000 c.period ≡ true
+  threads : length c.threads ≡ 1 + length c.script.clients + length c.script.images
+  each : list_all (λ p. is_printable_thread c.script p.0 p.1) (enumerate_from 0 c.threads) ≡ true
+  devices : length c.devices ≡ length c.script.images
+
+contents_parts : (c : Contents) → InRange c → is_printable c.script Static c.reactors c.period c.threads c.devices None [] ≡ true → ContentsFit c
+contents_parts c range e =
+    let script = is_none (rule_broken c.script) in
+    let reactors = is_within 1 16 c.reactors in
+    let period = is_within 1 1000000000000 c.period in
+    let threads = length c.threads == 1 + length c.script.clients + length c.script.images in
+    let each = list_all (λ p. is_printable_thread c.script p.0 p.1) (enumerate_from 0 c.threads) in
+    let devices = length c.devices == length c.script.images in
+    let g = and_parts (script && reactors && period && threads && each && devices) true e in
+    let f = and_parts (script && reactors && period && threads && each) devices g.0 in
+    let h = and_parts (script && reactors && period && threads) each f.0 in
+    let d = and_parts (script && reactors && period) threads h.0 in
+    let k = and_parts (script && reactors) period d.0 in
+    let b = and_parts script reactors k.0 in
+    record {
+      range = range;
+      kept = none_is (rule_broken c.script) b.0;
+      reactors = b.1;
+      period = k.1;
+      threads = eqb-true (length c.threads) (1 + length c.script.clients + length c.script.images) d.1;
+      each = h.1;
+      devices = eqb-true (length c.devices) (length c.script.images) f.1;
+    }
+
+-- the lines behind the script
+abbrev home_rest : Contents → List (List ℕ)
+home_rest c = (line (codes "home" ∷ decimal c.home.small ∷ decimal c.home.large ∷ []) ++ 10 ∷ []) ∷ (codes "end" ++ 10 ∷ []) ∷ []
+
+rest_split : (c : Contents) → fed (rest_lines c) ≡ fed (threads_lines c) ++ (fed (devices_lines c) ++ home_rest c)
+rest_split c =
+    let a = threads_lines c in
+    let d = devices_lines c in
+    let z = last_lines c in
+    ap (λ q. fed (q ++ z)) (append-nil (a ++ d ++ []) ∙ append-nil (a ++ d))
+    ∙ sym (append-nil (fed (a ++ d ++ z)))
+    ∙ fed_both (a ++ d) z []
+    ∙ ap (λ q. fed (a ++ d) ++ q) (append-nil (fed z))
+    ∙ fed_both a d (fed z)
+
+rest_read : (c : Contents) (s : State) → ContentsFit c → s.lines ≡ fed (rest_lines c) → Back (rest_at c.reactors c.period c.script s) c []
+rest_read c s fit e =
+    let behind = fed (devices_lines c) ++ home_rest c in
+    let count : Fits64 (0 + length c.threads) = omega (arith, fit.threads, fit.range.script.count) in
+    let th = threads_read c.script c.threads s behind (threads_fit c.script 0 c.threads fit.range.threads fit.each count) fit.threads
+    (device_next (length c.script.images) 0 c.devices c.home.small c.home.large ((codes "end" ++ 10 ∷ []) ∷ [])) (e ∙ rest_split c) in
+    let some : Fits64 (0 + length c.devices) = omega (arith, fit.devices, fit.range.script.count) in
+    let de = devices_read c.script c.devices th.0 (home_rest c) (devices_fit 0 c.devices fit.range.devices some) fit.devices th.1 in
+    let ho = one_back (pair_of_in Left) de.0 (line (codes "home" ∷ decimal c.home.small ∷ decimal c.home.large ∷ []) ++ 10 ∷ []) ((codes "end" ++ 10 ∷ []) ∷ []) c.home de.1 (pair_back (codes "home") c.home fit.range.small fit.range.large) in
+    let s1 = state (de.0.line + 1) ((codes "end" ++ 10 ∷ []) ∷ []) in
+    let en = one_back (fixed_in End) s1 (codes "end" ++ 10 ∷ []) [] End refl refl in
+    let s2 = state (s1.line + 1) [] in
+    (
+      s2,
+      refl,
+      ap (λ (r : Result (List ThreadRecord × State) ℕ). r >>= (λ t. devices_at c.script t.1 >>= (λ d. one (pair_of_in Left) d.1 >>= (λ h. one (fixed_in End) h.1 >>= (λ z. finished (record { script = c.script; reactors = c.reactors; period = c.period; threads = t.0; devices = d.0; home = h.0 }) z.1))))) th.2
+      ∙ ap (λ (r : Result (List DeviceEnd × State) ℕ). r >>= (λ d. one (pair_of_in Left) d.1 >>= (λ h. one (fixed_in End) h.1 >>= (λ z. finished (record { script = c.script; reactors = c.reactors; period = c.period; threads = c.threads; devices = d.0; home = h.0 }) z.1)))) de.2
+      ∙ ap (λ (r : Result (Home × State) ℕ). r >>= (λ h. one (fixed_in End) h.1 >>= (λ z. finished (record { script = c.script; reactors = c.reactors; period = c.period; threads = c.threads; devices = c.devices; home = h.0 }) z.1))) ho
+      ∙ ap (λ (r : Result (FixedLine × State) ℕ). r >>= (λ z. finished (record { script = c.script; reactors = c.reactors; period = c.period; threads = c.threads; devices = c.devices; home = c.home }) z.1)) en,
+    )
+
+-- what is behind the front four lines
+abbrev script_lines : Contents → List (List ℕ)
+script_lines c = (pool_line c.script ∷ []) ++ images_lines c.script ++ clients_lines c.script
+
+whole_split : (c : Contents) → fed (lines_from Static None [] c) ≡ fed (front c.reactors c.period) ++ (fed (script_lines c) ++ fed (rest_lines c))
+whole_split c =
+    ap fed (sym (together (front c.reactors c.period ++ script_lines c) c (script_front c)))
+    ∙ sym (append-nil (fed (front c.reactors c.period ++ script_lines c ++ rest_lines c)))
+    ∙ fed_both (front c.reactors c.period ++ script_lines c) (rest_lines c) []
+    ∙ ap (λ q. fed (front c.reactors c.period ++ script_lines c) ++ q) (append-nil (fed (rest_lines c)))
+    ∙ fed_both (front c.reactors c.period) (script_lines c) (fed (rest_lines c))
+
+bounded : (least most n : ℕ) → most ≤ u64_max → is_within least most n ≡ true → Fits64 n
+bounded least most n small h = let k = and_parts (nat_le least n) (nat_le n most) h in omega (arith, small, leb-true n most k.1)
+
+report_read : (c : Contents) (s : State) → ContentsFit c → s.lines ≡ fed (front c.reactors c.period) ++ (fed (script_lines c) ++ fed (rest_lines c)) → Back (report_at s) c []
+unfolding front
+report_read c s fit e =
+    let behind = fed (script_lines c) ++ fed (rest_lines c) in
+    let third = line (codes "reactors" ∷ decimal c.reactors ∷ []) ++ 10 ∷ [] in
+    let fourth = line (codes "period" ∷ decimal c.period ∷ []) ++ 10 ∷ [] in
+    let a = one_back (fixed_in Title) s (codes "lightrun report 1" ++ 10 ∷ []) ((codes "scheduler static" ++ 10 ∷ []) ∷ third ∷ fourth ∷ behind) Title e refl in
+    let s1 = state (s.line + 1) ((codes "scheduler static" ++ 10 ∷ []) ∷ third ∷ fourth ∷ behind) in
+    let b = one_back (fixed_in StaticScheduler) s1 (codes "scheduler static" ++ 10 ∷ []) (third ∷ fourth ∷ behind) StaticScheduler refl refl in
+    let s2 = state (s1.line + 1) (third ∷ fourth ∷ behind) in
+    let r = one_back reactors_in s2 third (fourth ∷ behind) c.reactors refl (counted_back (codes "reactors") 1 16 c.reactors (bounded 1 16 c.reactors (omega arith) fit.reactors) fit.reactors) in
+    let s3 = state (s2.line + 1) (fourth ∷ behind) in
+    let p = one_back (number_of_in Period) s3 fourth behind c.period refl (counted_back (codes "period") 1 1000000000000 c.period (bounded 1 1000000000000 c.period (omega arith) fit.period) fit.period) in
+    let s4 = state (s3.line + 1) behind in
+    let k = script_read s4 c.script (fed (rest_lines c)) fit.range.script fit.kept refl in
+    let z = rest_read c k.0 fit k.1 in
+    (
+      z.0,
+      z.1,
+      ap (λ (q : Result (FixedLine × State) ℕ). q >>= (λ x. one (fixed_in StaticScheduler) x.1 >>= (λ y. one reactors_in y.1 >>= (λ n. one (number_of_in Period) n.1 >>= (λ m. script_at m.1 >>= (λ w. rest_at n.0 m.0 w.0 w.1)))))) a
+      ∙ ap (λ (q : Result (FixedLine × State) ℕ). q >>= (λ y. one reactors_in y.1 >>= (λ n. one (number_of_in Period) n.1 >>= (λ m. script_at m.1 >>= (λ w. rest_at n.0 m.0 w.0 w.1))))) b
+      ∙ ap (λ (q : Result (ℕ × State) ℕ). q >>= (λ n. one (number_of_in Period) n.1 >>= (λ m. script_at m.1 >>= (λ w. rest_at n.0 m.0 w.0 w.1)))) r
+      ∙ ap (λ (q : Result (ℕ × State) ℕ). q >>= (λ m. script_at m.1 >>= (λ w. rest_at c.reactors m.0 w.0 w.1))) p
+      ∙ ap (λ (q : Result (Script × State) ℕ). q >>= (λ w. rest_at c.reactors c.period w.0 w.1)) k.2
+      ∙ z.2,
+    )
+
+-- the lines of a record are read as what it says
+pub lines_read : (c : Contents) (n : ℕ) → InRange c → is_printable c.script Static c.reactors c.period c.threads c.devices None [] ≡ true → Back (report_at (state n (fed (lines_from Static None [] c)))) c []
+lines_read c n range printable = report_read c (state n (fed (lines_from Static None [] c))) (contents_parts c range printable) (whole_split c)
