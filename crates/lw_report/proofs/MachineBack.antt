@@ -89,12 +89,11 @@ numbered_back f lines Fits Q each begins [] n s R fit q e = (s, e, refl)
 numbered_back {X = X} f lines Fits Q each begins (x ∷ xs) n s R fit q e =
     let rest = fed (flat_map (λ (p : ℕ × X). lines p.0 p.1) (enumerate_from (n + 1) xs)) ++ R in
     let a = each n x s rest fit.0 (next xs) (e ∙ fed_both (lines n x) (flat_map (λ (p : ℕ × X). lines p.0 p.1) (enumerate_from (n + 1) xs)) R) in
-    let b = numbered_back f lines Fits Q each begins xs (n + 1) a.0 R fit.1 q a.1 in
-    (
+    let b = numbered_back f lines Fits Q each begins xs (n + 1) a.0 R fit.1 q a.1 in (
       b.0,
       b.1,
       ap (λ (r : Result (X × State) ℕ). r >>= (λ y. numbered (length xs) (n + 1) f y.1 >>= (λ ys. Ok (y.0 ∷ ys.0, ys.1)))) a.2
-      ∙ ap (λ (r : Result (List X × State) ℕ). r >>= (λ ys. Ok (x ∷ ys.0, ys.1))) b.2,
+          ∙ ap (λ (r : Result (List X × State) ℕ). r >>= (λ ys. Ok (x ∷ ys.0, ys.1))) b.2,
     )
   where
     next : (ys : List X) → Q (fed (flat_map (λ (p : ℕ × X). lines p.0 p.1) (enumerate_from (n + 1) ys)) ++ R)
@@ -122,12 +121,11 @@ client_read s c R fit named long e =
     let t = state (s.line + 1) (fed (map op_line c.ops) ++ R) in
     let ops = numbered_back (λ n. one op_in) (λ n o. op_line o ∷ []) OpBack Any
     (λ n o s R h q e. (state (s.line + 1) R, refl, one_back op_in s (op_line o ++ 10 ∷ []) R o e (op_back o h.0 h.1)))
-    (λ n o R. tt) c.ops 0 t R (ops_fit 0 c.ops fit.1 long) tt (ap (λ ls. fed ls ++ R) (sym (one_by_one op_line 0 c.ops))) in
-    (
+    (λ n o R. tt) c.ops 0 t R (ops_fit 0 c.ops fit.1 long) tt (ap (λ ls. fed ls ++ R) (sym (one_by_one op_line 0 c.ops))) in (
       ops.0,
       ops.1,
       ap (λ r. r >>= (λ h. numbered h.0.ops 0 (λ n. one op_in) h.1 >>= (λ os. Ok (record { name = h.0.name; depth = h.0.depth; ops = os.0 }, os.1)))) first
-      ∙ ap (λ (r : Result (List Op × State) ℕ). r >>= (λ os. Ok (record { name = c.name; depth = c.depth; ops = os.0 }, os.1))) ops.2,
+          ∙ ap (λ (r : Result (List Op × State) ℕ). r >>= (λ os. Ok (record { name = c.name; depth = c.depth; ops = os.0 }, os.1))) ops.2,
     )
 
 -- ---- threads

@@ -46,7 +46,7 @@ all_hex p each (b ∷ bs) fit =
     and_from (p (slice_index lower_digits (b / 16))) (p (slice_index lower_digits (b % 16)) && list_all p (encode_lower bs)) (each (b / 16) (omega arith) (omega (arith, small)))
     (and_from (p (slice_index lower_digits (b % 16))) (list_all p (encode_lower bs)) (each (b % 16) (omega arith) (omega arith)) (all_hex p each bs (λ i. fit (suc i))))
 
-hex_words : (bs : List ℕ) → IsBytes bs → list_all (λ b. not (ends_word b)) (encode_lower bs) ≡ true
+pub hex_words : (bs : List ℕ) → IsBytes bs → list_all (λ b. not (ends_word b)) (encode_lower bs) ≡ true
 hex_words = all_hex (λ b. not (ends_word b)) ((all_in_range (λ k. not (ends_word (slice_index lower_digits k))) (λ k. not (ends_word (slice_index lower_digits k)) ≡ true) 0 16 (λ k. (λ e. e, λ e. e))).0 refl)
 
 hex_small : (bs : List ℕ) → IsBytes bs → list_all is_no_capital (encode_lower bs) ≡ true
@@ -193,7 +193,7 @@ name_byte b e = at (is_within 97 122 b) (is_within 48 57 b) (b == 95) (b == 45) 
     at false false false true p q r s e = let is = eqb-true b 45 s in fine 45 45 (omega arith) (omega arith) (omega (arith, is)) (omega (arith, is))
     at false false false false p q r s e = absurd (false≢true e)
 
-name_words : (w : List ℕ) → list_all is_name_byte w ≡ true → list_all (λ b. not (ends_word b)) w ≡ true
+pub name_words : (w : List ℕ) → list_all is_name_byte w ≡ true → list_all (λ b. not (ends_word b)) w ≡ true
 name_words [] h = refl
 name_words (b ∷ w) h = let k = and_parts (is_name_byte b) (list_all is_name_byte w) h in and_from (not (ends_word b)) (list_all (λ b. not (ends_word b)) w) (name_byte b k.0).0 (name_words w k.1)
 

@@ -104,13 +104,12 @@ thread_read script n x s R fit printable small next e =
     let e4 = many_back (called_in images) called_line (λ c. CalledFits c × (nat_lt c.device images ≡ true)) (λ c h. called_back images c h.0 h.1) x.called (both_fit CalledFits (λ c. nat_lt c.device images) x.called fit.called p.called) s3 (own_rest images x R) (called_stops images x R next) refl in
     let s4 = state (s3.line + length x.called) (own_rest images x R) in
     let own = own_read x.role x images s4 R p.own fit.replies fit.seen next refl in
-    let all = thread_of_lines x.role x.home images s0 s1 s2 s3 s4 x.hops x.ran x.did x.called ((x.replies, x.seen), own.0) e1 e2 e3 e4 own.2 in
-    (
+    let all = thread_of_lines x.role x.home images s0 s1 s2 s3 s4 x.hops x.ran x.did x.called ((x.replies, x.seen), own.0) e1 e2 e3 e4 own.2 in (
       own.0,
       own.1,
       ap (λ r. one (thread_in r n) s >>= (λ h. Ok (thread_lines r h.0 images h.1))) (sym (role_is (length script.clients) n x.role p.role))
-      ∙ ap (λ (r : Result (ℕ × State) ℕ). r >>= (λ h. Ok (thread_lines x.role h.0 images h.1))) a
-      ∙ ap (λ (q : ThreadRecord × State). Ok q) (sym all),
+          ∙ ap (λ (r : Result (ℕ × State) ℕ). r >>= (λ h. Ok (thread_lines x.role h.0 images h.1))) a
+          ∙ ap (λ (q : ThreadRecord × State). Ok q) (sym all),
     )
 
 -- what stands behind a thread: another thread, a device, or the pool's line

@@ -87,14 +87,13 @@ script_read s script R fit kept e =
     let c = list_back Clients (λ n. client_at) (λ n x. client_lines x) ClientBack
     (λ n x s R h e. client_read s x R h.fit h.named h.long e)
     script.clients b.0 R (clients_fit 0 script.clients fit.clients (clients_named script kept) (patterns_fit script kept)) (omega (arith, fit.count)) (counted_within (length script.clients) (omega (arith, fit.count)))
-    (b.1 ∙ ap (λ ls. (line (codes "clients" ∷ count_of script.clients ∷ []) ++ 10 ∷ []) ∷ (fed ls ++ R)) (sym (by_item client_lines 0 script.clients))) in
-    (
+    (b.1 ∙ ap (λ ls. (line (codes "clients" ∷ count_of script.clients ∷ []) ++ 10 ∷ []) ∷ (fed ls ++ R)) (sym (by_item client_lines 0 script.clients))) in (
       c.0,
       c.1,
       ap (λ (q : Result (Home × State) ℕ). q >>= (λ p. list_at Images (λ n. one image_in) p.1 >>= (λ i. list_at Clients (λ n. client_at) i.1 >>= (λ k. accepted (record { images = i.0; clients = k.0; small = p.0.small; large = p.0.large }) k.1)))) a
-      ∙ ap (λ (q : Result (List ImageOf × State) ℕ). q >>= (λ i. list_at Clients (λ n. client_at) i.1 >>= (λ k. accepted (record { images = i.0; clients = k.0; small = script.small; large = script.large }) k.1))) b.2
-      ∙ ap (λ (q : Result (List ClientOf × State) ℕ). q >>= (λ k. accepted (record { images = script.images; clients = k.0; small = script.small; large = script.large }) k.1)) c.2
-      ∙ ap (λ o. if is_none o then Ok (script, c.0) else Err c.0.line) kept,
+          ∙ ap (λ (q : Result (List ImageOf × State) ℕ). q >>= (λ i. list_at Clients (λ n. client_at) i.1 >>= (λ k. accepted (record { images = i.0; clients = k.0; small = script.small; large = script.large }) k.1))) b.2
+          ∙ ap (λ (q : Result (List ClientOf × State) ℕ). q >>= (λ k. accepted (record { images = script.images; clients = k.0; small = script.small; large = script.large }) k.1)) c.2
+          ∙ ap (λ o. if is_none o then Ok (script, c.0) else Err c.0.line) kept,
     )
 
 -- ---- threads and devices
@@ -140,16 +139,16 @@ device_next images n (d ∷ ds) small large R = next_device images n d (fed (map
 
 -- ---- the whole
 
-record ContentsFit (c : Contents) : Type 0 where
-  range : InRange c
-  kept : rule_broken c.script ≡ None
-  reactors : is_within 1 16 c.reactors ≡ true
-  period : is_within 1 1000000000000 c.period ≡ true
-  threads : length c.threads ≡ 1 + length c.script.clients + length c.script.images
-  each : list_all (λ p. is_printable_thread c.script p.0 p.1) (enumerate_from 0 c.threads) ≡ true
-  devices : length c.devices ≡ length c.script.images
+pub record ContentsFit (c : Contents) : Type 0 where
+  pub range : InRange c
+  pub kept : rule_broken c.script ≡ None
+  pub reactors : is_within 1 16 c.reactors ≡ true
+  pub period : is_within 1 1000000000000 c.period ≡ true
+  pub threads : length c.threads ≡ 1 + length c.script.clients + length c.script.images
+  pub each : list_all (λ p. is_printable_thread c.script p.0 p.1) (enumerate_from 0 c.threads) ≡ true
+  pub devices : length c.devices ≡ length c.script.images
 
-contents_parts : (c : Contents) → InRange c → is_printable c.script Static c.reactors c.period c.threads c.devices None [] ≡ true → ContentsFit c
+pub contents_parts : (c : Contents) → InRange c → is_printable c.script Static c.reactors c.period c.threads c.devices None [] ≡ true → ContentsFit c
 contents_parts c range e =
     let script = is_none (rule_broken c.script) in
     let reactors = is_within 1 16 c.reactors in
@@ -199,14 +198,13 @@ rest_read c s fit e =
     let ho = one_back (pair_of_in Left) de.0 (line (codes "home" ∷ decimal c.home.small ∷ decimal c.home.large ∷ []) ++ 10 ∷ []) ((codes "end" ++ 10 ∷ []) ∷ []) c.home de.1 (pair_back (codes "home") c.home fit.range.small fit.range.large) in
     let s1 = state (de.0.line + 1) ((codes "end" ++ 10 ∷ []) ∷ []) in
     let en = one_back (fixed_in End) s1 (codes "end" ++ 10 ∷ []) [] End refl refl in
-    let s2 = state (s1.line + 1) [] in
-    (
+    let s2 = state (s1.line + 1) [] in (
       s2,
       refl,
       ap (λ (r : Result (List ThreadRecord × State) ℕ). r >>= (λ t. devices_at c.script t.1 >>= (λ d. one (pair_of_in Left) d.1 >>= (λ h. one (fixed_in End) h.1 >>= (λ z. finished (record { script = c.script; reactors = c.reactors; period = c.period; threads = t.0; devices = d.0; home = h.0 }) z.1))))) th.2
-      ∙ ap (λ (r : Result (List DeviceEnd × State) ℕ). r >>= (λ d. one (pair_of_in Left) d.1 >>= (λ h. one (fixed_in End) h.1 >>= (λ z. finished (record { script = c.script; reactors = c.reactors; period = c.period; threads = c.threads; devices = d.0; home = h.0 }) z.1)))) de.2
-      ∙ ap (λ (r : Result (Home × State) ℕ). r >>= (λ h. one (fixed_in End) h.1 >>= (λ z. finished (record { script = c.script; reactors = c.reactors; period = c.period; threads = c.threads; devices = c.devices; home = h.0 }) z.1))) ho
-      ∙ ap (λ (r : Result (FixedLine × State) ℕ). r >>= (λ z. finished (record { script = c.script; reactors = c.reactors; period = c.period; threads = c.threads; devices = c.devices; home = c.home }) z.1)) en,
+          ∙ ap (λ (r : Result (List DeviceEnd × State) ℕ). r >>= (λ d. one (pair_of_in Left) d.1 >>= (λ h. one (fixed_in End) h.1 >>= (λ z. finished (record { script = c.script; reactors = c.reactors; period = c.period; threads = c.threads; devices = d.0; home = h.0 }) z.1)))) de.2
+          ∙ ap (λ (r : Result (Home × State) ℕ). r >>= (λ h. one (fixed_in End) h.1 >>= (λ z. finished (record { script = c.script; reactors = c.reactors; period = c.period; threads = c.threads; devices = c.devices; home = h.0 }) z.1))) ho
+          ∙ ap (λ (r : Result (FixedLine × State) ℕ). r >>= (λ z. finished (record { script = c.script; reactors = c.reactors; period = c.period; threads = c.threads; devices = c.devices; home = c.home }) z.1)) en,
     )
 
 -- what is behind the front four lines
@@ -221,7 +219,7 @@ whole_split c =
     ∙ ap (λ q. fed (front c.reactors c.period ++ script_lines c) ++ q) (append-nil (fed (rest_lines c)))
     ∙ fed_both (front c.reactors c.period) (script_lines c) (fed (rest_lines c))
 
-bounded : (least most n : ℕ) → most ≤ u64_max → is_within least most n ≡ true → Fits64 n
+pub bounded : (least most n : ℕ) → most ≤ u64_max → is_within least most n ≡ true → Fits64 n
 bounded least most n small h = let k = and_parts (nat_le least n) (nat_le n most) h in omega (arith, small, leb-true n most k.1)
 
 report_read : (c : Contents) (s : State) → ContentsFit c → s.lines ≡ fed (front c.reactors c.period) ++ (fed (script_lines c) ++ fed (rest_lines c)) → Back (report_at s) c []
@@ -239,16 +237,15 @@ report_read c s fit e =
     let p = one_back (number_of_in Period) s3 fourth behind c.period refl (counted_back (codes "period") 1 1000000000000 c.period (bounded 1 1000000000000 c.period (omega arith) fit.period) fit.period) in
     let s4 = state (s3.line + 1) behind in
     let k = script_read s4 c.script (fed (rest_lines c)) fit.range.script fit.kept refl in
-    let z = rest_read c k.0 fit k.1 in
-    (
+    let z = rest_read c k.0 fit k.1 in (
       z.0,
       z.1,
       ap (λ (q : Result (FixedLine × State) ℕ). q >>= (λ x. one (fixed_in StaticScheduler) x.1 >>= (λ y. one reactors_in y.1 >>= (λ n. one (number_of_in Period) n.1 >>= (λ m. script_at m.1 >>= (λ w. rest_at n.0 m.0 w.0 w.1)))))) a
-      ∙ ap (λ (q : Result (FixedLine × State) ℕ). q >>= (λ y. one reactors_in y.1 >>= (λ n. one (number_of_in Period) n.1 >>= (λ m. script_at m.1 >>= (λ w. rest_at n.0 m.0 w.0 w.1))))) b
-      ∙ ap (λ (q : Result (ℕ × State) ℕ). q >>= (λ n. one (number_of_in Period) n.1 >>= (λ m. script_at m.1 >>= (λ w. rest_at n.0 m.0 w.0 w.1)))) r
-      ∙ ap (λ (q : Result (ℕ × State) ℕ). q >>= (λ m. script_at m.1 >>= (λ w. rest_at c.reactors m.0 w.0 w.1))) p
-      ∙ ap (λ (q : Result (Script × State) ℕ). q >>= (λ w. rest_at c.reactors c.period w.0 w.1)) k.2
-      ∙ z.2,
+          ∙ ap (λ (q : Result (FixedLine × State) ℕ). q >>= (λ y. one reactors_in y.1 >>= (λ n. one (number_of_in Period) n.1 >>= (λ m. script_at m.1 >>= (λ w. rest_at n.0 m.0 w.0 w.1))))) b
+          ∙ ap (λ (q : Result (ℕ × State) ℕ). q >>= (λ n. one (number_of_in Period) n.1 >>= (λ m. script_at m.1 >>= (λ w. rest_at n.0 m.0 w.0 w.1)))) r
+          ∙ ap (λ (q : Result (ℕ × State) ℕ). q >>= (λ m. script_at m.1 >>= (λ w. rest_at c.reactors m.0 w.0 w.1))) p
+          ∙ ap (λ (q : Result (Script × State) ℕ). q >>= (λ w. rest_at c.reactors c.period w.0 w.1)) k.2
+          ∙ z.2,
     )
 
 -- the lines of a record are read as what it says

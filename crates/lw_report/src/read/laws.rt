@@ -1,9 +1,20 @@
-//! laws
-ghost use Rattle.std.specs.Prelude.{◌≡◌, ℕ, List, Option, Some, None, ◌++◌, ◌∷◌, [], codes, decimal};
-ghost use Rattle.lw_model.specs.ReportText.{line};
-ghost use Rattle.lw_report.specs.LineKinds.{hop_in};
+//! What is proved of the texts of records. A law is a function that does nothing: its clause is the law.
+ghost use Rattle.std.specs.Prelude.{◌≡◌, Ok};
+ghost use Rattle.lw_model.specs.declared.record.Record.{Record};
+ghost use Rattle.lw_model.specs.ReportText.{text_of};
+ghost use Rattle.lw_report.specs.Report.{reading};
+ghost use Rattle.lw_report.specs.Parsed.{IsStatic, contents_of};
+ghost use Rattle.lw_report.specs.Ranges.{InRange};
 
-/// try
-pub fn try_law()
-    ensures { (a b : ℕ) → hop_in (line (codes "home" ∷ decimal a ∷ decimal b ∷ []) ++ 10 ∷ []) ≡ None }
+/// The text of a static run's record is read, without a bad line, as what the record says.
+pub fn texts_are_read()
+    ensures { (r : Record) → IsStatic r → InRange (contents_of r) →
+        reading (text_of r) ≡ Ok (contents_of r) }
+{}
+
+/// Each record has one text, and no text is that of two records of static runs.
+pub fn texts_are_of_one_record()
+    ensures { (r s : Record) → IsStatic r → IsStatic s →
+        InRange (contents_of r) → InRange (contents_of s) →
+        text_of r ≡ text_of s → contents_of r ≡ contents_of s }
 {}
