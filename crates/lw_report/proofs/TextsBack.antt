@@ -47,3 +47,7 @@ one_record r s a b c d e = ok_is (sym (text_read r a c) ∙ ap reading e ∙ tex
   where
     ok_is : {x y : Contents} → ◌≡◌ {A = Result Contents ℕ} (Ok x) (Ok y) → x ≡ y
     ok_is e = cc
+
+-- a text with a bad line is that of no static run's record
+pub no_text : (bytes : List ℕ) (n : ℕ) → reading bytes ≡ Err n → (r : Record) → IsStatic r → InRange (contents_of r) → ¬ (text_of r ≡ bytes)
+no_text bytes n bad r is range e = let wrong : ◌≡◌ {A = Result Contents ℕ} (Ok (contents_of r)) (Err n) = sym (text_read r is range) ∙ ap reading e ∙ bad in cc

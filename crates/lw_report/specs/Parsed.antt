@@ -4,6 +4,7 @@ use Rattle.lw_model.specs.declared.record.Record.{Record}
 use Rattle.lw_model.specs.declared.record.Scheduler.TheVariants.{Static}
 use Rattle.lw_model.specs.ReportText.{text_of}
 use Rattle.lw_report.specs.declared.read.contents.Contents.{Contents}
+use Rattle.lw_report.specs.Ranges.{InRange}
 use Rattle.lw_report.specs.declared.read.parsed.Parsed.{Parsed}
 use Rattle.lw_report.specs.declared.read.parsed.Parsed.TheVariants.{Told, BadLine}
 
@@ -22,7 +23,7 @@ abbrev pub Tells : Parsed → Result Contents ℕ → Type 0
 Tells (Told r) told = (told ≡ Ok (contents_of r)) × IsStatic r
 Tells (BadLine line) told = told ≡ Err line
 
--- a record that was told is one with this text
+-- a record that was told is the one with this text; where a line is bad no static run's record has it
 abbrev pub IsOfText : Parsed → List ℕ → Type 0
 IsOfText (Told r) bytes = text_of r ≡ bytes
-IsOfText (BadLine line) bytes = Unit {0}
+IsOfText (BadLine line) bytes = (r : Record) → IsStatic r → InRange (contents_of r) → ¬ (text_of r ≡ bytes)

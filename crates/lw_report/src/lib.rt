@@ -15,5 +15,5 @@ pub use lw_model::{
     Answer, Called, DeviceEnd, Did, Home, Hop, Order, Record, Replied, Reply, RoleKind, Round, Row,
     Scheduler, Seen, SeenBy, Span, ThreadRecord,
 };
-pub use read::{Parsed, read_report};
+pub use read::{Parsed, read_report, texts_are_of_one_record, texts_are_read};
 pub use text::print;

@@ -12,4 +12,5 @@ mod script_lines;
 mod sections;
 mod single;
 
+pub use laws::{texts_are_of_one_record, texts_are_read};
 pub use parsed::{Parsed, read_report};
