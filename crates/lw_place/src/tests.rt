@@ -1,0 +1,4 @@
+ghost use Rattle.std.specs.Prelude.{◌≡◌};
+
+use crate::{Place, places};
+use std::test::Fail;
