@@ -1,6 +1,7 @@
 -- A new table meets the rule.
 use Rattle.std.proofs.Common.{◌≡◌, ℕ, zero, suc, ◌+◌, ◌*◌, ◌<◌, ◌≤◌, min, List, [], ◌∷◌, ◌++◌, length, map, refl, sym, ap, subst, ◌∙◌, ⊎_elim, arith, All, slice_index}
-use Rattle.std.proofs.lemmas.List.{length-map}
+use Rattle.std.specs.Prelude.{slice_index_or}
+use Rattle.std.proofs.lemmas.List.{length-map, get_or_push, get_or_append_left}
 use Rattle.std.proofs.lemmas.List.Elements.{All-nil, All-cons, All-head, All-tail}
 use mathlib.Core.Option.{some, some-ne-none}
 use lib.ListN.{get_elem?}
@@ -12,6 +13,7 @@ use Rattle.lw_place.specs.declared.place.Place.TheVariants as place
 use Rattle.lw_place.specs.declared.table.Stand.{Stand}
 use Rattle.lw_place.specs.declared.table.Homes.{Homes}
 use Rattle.lw_place.specs.declared.table.PlaceView.{PlaceView}
+use Rattle.lw_place.specs.PlaceSeats.{Places, ThreadEnd}
 use Rattle.lw_place.specs.PlaceTable.{times, stands_from, words_of, first_view, IsStanding, Fits, Placed}
 use Rattle.lw_place.proofs.Standing.{times_here, times_not_here}
 
@@ -51,7 +53,7 @@ begins homes ws is few below = subst (λ l. Placed homes (opening l [] (first_vi
     let hs = homes.of.items in
     let n : ℕ = length hs in
     let ws' : List ℕ = words_of hs in
-    let long = length-map (λ h. 2 * h) hs in
+    let long = length-map hs (λ (h : ℕ). 2 * h) in
     let lf = length_from 0 hs in
     record {
       few = few;
@@ -73,3 +75,15 @@ begins homes ws is few below = subst (λ l. Placed homes (opening l [] (first_vi
           }))
           (at_snoc [] (first_view homes) u j e);
     })
+
+-- the seat of a thread whose home is in its place among these
+abbrev pub seat_at : Places → List ℕ → ℕ → ThreadEnd
+seat_at p homes t = record { places = p; thread = t; place = place.List (slice_index homes t) }
+
+-- one more thread has its seat
+pub one_more_thread : (p : Places) (homes : List ℕ) (ts us : List ThreadEnd) (n : ℕ) (t : ThreadEnd) → us ≡ ts ++ t ∷ [] → length ts ≡ n
+    → ((k : ℕ) (d : ThreadEnd) → k < n → slice_index_or ts k d ≡ seat_at p homes k) → t ≡ seat_at p homes n
+    → (k : ℕ) (d : ThreadEnd) → k < n + 1 → slice_index_or us k d ≡ seat_at p homes k
+one_more_thread p homes ts us n t is long before last k d l = ap (λ (l : List ThreadEnd). slice_index_or l k d) is ∙ dite (ℕ_discrete k n)
+    (λ same. get_or_push ts t d k (long ∙ sym same) ∙ last ∙ ap (seat_at p homes) (sym same))
+    (λ differ. get_or_append_left ts (t ∷ []) d k (omega arith) ∙ before k d (omega arith))

@@ -31,7 +31,7 @@ length_moved p (x ∷ xs) = refl
 pub times_here : (t : ℕ) (x : Stand) (xs : List Stand) → x.thread ≡ t → times t (x ∷ xs) ≡ 1 + times t xs
 times_here t x xs e = ap (λ b. (if b then 1 else 0) + times t xs) (eq-eqb x.thread t e)
 
-times_not_here : (t : ℕ) (x : Stand) (xs : List Stand) → x.thread ≢ t → times t (x ∷ xs) ≡ times t xs
+pub times_not_here : (t : ℕ) (x : Stand) (xs : List Stand) → x.thread ≢ t → times t (x ∷ xs) ≡ times t xs
 times_not_here t x xs e = ap (λ b. (if b then 1 else 0) + times t xs) (ne_eqb x.thread t e) ∙ omega arith
 
 -- of threads of which t is none, no word changes with t's

@@ -42,10 +42,7 @@ pub fn gather(
     let mut whole = join_threads(join_desks(desks), threads);
     let done = whole.done();
     let halted = whole.halted();
-    let mut places = Vec::new(alloc);
-    for thread in 0..whole.threads() {
-        places.push(whole.place(thread))?;
-    }
+    let places = all_places(alloc, whole)?;
     Ok(Whole {
         places,
         done,
@@ -81,4 +78,18 @@ fn join_threads(mut whole: Bundle, threads: Vec<ThreadSeat>) -> Bundle
         whole.take_in(thread.into_bundle());
     }
     whole
+}
+
+// Where each thread stands, by the words.
+fn all_places(alloc: Global, mut whole: Bundle) -> Result<Vec<Place>, NoMemory>
+    requires { length whole.view.stands ≡ whole.view.threads }
+    ensures count { IfOk result (λ v. length v.items ≡ whole.view.threads) }
+    ensures each { IfOk result (λ v. (t : ℕ) (d : Place) → t < whole.view.threads →
+        Contains whole.view.stands (record { thread = t; place = slice_index_or v.items t d })) }
+{
+    let mut places = Vec::new(alloc);
+    for thread in 0..whole.threads() {
+        places.push(whole.place(thread))?;
+    }
+    Ok(places)
 }

@@ -1,7 +1,7 @@
 use Rattle.std.proofs.Common.{◌≡◌, ◌<◌, ℕ, length, Contains}
 use Rattle.std.specs.Prelude.{slice_index_or}
 use Rattle.lw_place.specs.declared.place.Place.{Place}
-use Rattle.lw_place.proofs.gathering.gather.Given as goal
+use Rattle.lw_place.proofs.gathering.all_places.Given as goal
 
 abbrev pub invariant-loop-thread : goal.invariant-loop-thread
 invariant-loop-thread l =
