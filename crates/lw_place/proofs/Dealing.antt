@@ -81,6 +81,7 @@ module _ (homes : Homes) where
       rest : (xs : List Stand) → Stands s xs → Stands s (others xs)
       rest [] k = k
       rest (x ∷ xs) k = All-tail (IsStanding (length homes.of.items) homes.reactors s.words) x xs k
+
       first : (xs : List Stand) → Stands s xs → Stands s (firsts xs)
       first [] k = k
       first (x ∷ xs) k = let P = IsStanding (length homes.of.items) homes.reactors s.words in All-cons P x [] (All-head P x xs k) (All-nil P)

@@ -1,12 +1,15 @@
 -- Seats gathered into one.
-use Rattle.std.proofs.Common.{◌≡◌, ◌⊎◌, ℕ, zero, suc, ◌+◌, ◌<◌, ◌≤◌, max, List, [], ◌∷◌, ◌++◌, length, map, refl, sym, ap, subst, ◌∙◌, ⊎_elim, arith, All, Any, Contains}
+use Rattle.std.proofs.Common.{◌≡◌, ◌⊎◌, ℕ, zero, suc, ◌+◌, ◌<◌, ◌≤◌, max, List, [], ◌∷◌, ◌++◌, length, map, refl, sym, ap, subst, ◌∙◌, ⊎_elim, inl, arith, All, Any}
 use Rattle.std.specs.Prelude.{slice_index_or}
-use Rattle.std.proofs.lemmas.List.{length-map, get_or_push, get_or_append_left}
+use Rattle.std.proofs.lemmas.List.{length-map, length-replicate, get_or_push, get_or_append_left}
+use Rattle.std.proofs.lemmas.List.Elements.{All-map, All-contains, All-replicate}
+use Rattle.lw_place.specs.declared.place.Place.TheVariants as place
 use mathlib.Core.Logic.{dite}
 use native.Mathlib.Decide.{ℕ_discrete}
+use Rattle.lw_place.specs.PlaceTable.{StandsAt}
 use Rattle.lw_place.specs.declared.place.Place.{Place}
 use Rattle.lw_place.specs.declared.table.Stand.{Stand}
-use Rattle.lw_place.specs.PlaceSeats.{Places, ThreadEnd, DeskEnd, BundleEnd, places_of, stand, all_retired, all_halted, most_seen, AreEnded, AreAllSeats, Holds}
+use Rattle.lw_place.specs.PlaceSeats.{Places, ThreadEnd, DeskEnd, BundleEnd, places_of, stand, all_retired, all_halted, most_seen, AreEnded, AreAllSeats, AreNew, new_desk, Holds}
 
 -- what a desk saw is at most what was seen most
 seen_most : (n k : ℕ) (x : DeskEnd) (ds : List DeskEnd) → k < length ds → slice_index_or ds k x ≡ x → x.done_seen ≡ n → n ≤ most_seen ds
@@ -60,25 +63,42 @@ all_stand ts ds w done a g is seen few =
     let long : length w.view.stands ≡ length ts = ap length g.stands ∙ length-map ts stand in
     ⊎_elim (λ (all : length ts ≡ a.places.threads). omega arith)
     (λ (e : AreEnded a.places ts ds).
-      (let most = any_seen a.places.threads ds e.seen in
-      let r = e.retired in
-      let count = is g.desks in
-      let x = g.retired in
-      let y = g.seen in
-      omega arith))
+    (let most = any_seen a.places.threads ds e.seen in
+    let r = e.retired in
+    let count = is g.desks in
+    let x = g.retired in
+    let y = g.seen in
+    omega arith))
     a.all_threads
 
 -- one more thread's place is known
 pub one_more_place : (xs : List Stand) (ps qs : List Place) (n : ℕ) (p : Place) → qs ≡ ps ++ p ∷ [] → length ps ≡ n
-    → ((t : ℕ) (d : Place) → t < n → Contains xs (record { thread = t; place = slice_index_or ps t d }))
-    → Contains xs (record { thread = n; place = p })
-    → (t : ℕ) (d : Place) → t < n + 1 → Contains xs (record { thread = t; place = slice_index_or qs t d })
+    → ((t : ℕ) (d : Place) → t < n → StandsAt xs t (slice_index_or ps t d))
+    → StandsAt xs n p
+    → (t : ℕ) (d : Place) → t < n + 1 → StandsAt xs t (slice_index_or qs t d)
 one_more_place xs ps qs n p is long before last t d l = dite (ℕ_discrete t n)
     (λ same. (let at : slice_index_or qs t d ≡ p = ap (λ (l : List Place). slice_index_or l t d) is ∙ get_or_push ps p d t (long ∙ sym same) in
-    subst (λ (y : Stand). Contains xs y) (λ i. record { thread = sym same i; place = sym at i }) last))
+    subst (λ (y : Stand). StandsAt xs y.thread y.place) (λ i. record { thread = sym same i; place = sym at i }) last))
     (λ differ. (let at : slice_index_or qs t d ≡ slice_index_or ps t d = ap (λ (l : List Place). slice_index_or l t d) is ∙ get_or_append_left ps (p ∷ []) d t (omega arith) in
-    subst (λ (q : Place). Contains xs (record { thread = t; place = q })) (sym at) (before t d (omega arith))))
+    subst (λ (q : Place). StandsAt xs t q) (sym at) (before t d (omega arith))))
 
 pub nil_from_length : {X : Type 0} (xs : List X) → length xs ≡ 0 → xs ≡ []
 nil_from_length [] e = refl
 nil_from_length (x ∷ xs) e = absurd (omega arith)
+
+-- where all of these have ended, each has
+pub ends_there : (ts : List ThreadEnd) (k : ℕ) (p : Place) → All (λ t. t.place ≡ place.Ended) ts → StandsAt (map stand ts) k p → p ≡ place.Ended
+ends_there ts k p ended at = All-contains (λ (x : Stand). x.place ≡ place.Ended) (map stand ts) (record { thread = k; place = p }) (All-map (λ (x : Stand). x.place ≡ place.Ended) stand ts ended) at.among
+
+-- the seats of new places are all
+pub all_of_new : (home : ℕ → ℕ) (n r : ℕ) (ts : List ThreadEnd) (ds : List DeskEnd) → 1 ≤ r → AreNew home n r ts ds → AreAllSeats ts ds
+all_of_new home n r ts ds some_desk new =
+    let many : length ds ≡ r = ap length new.desks ∙ length-replicate r (new_desk new.places) in
+    record {
+      places = new.places;
+      its_threads = λ k d l. ap (λ (t : ThreadEnd). t.places) (new.each_thread k d (let a = new.thread_count in omega arith));
+      its_desks = subst (λ xs. All (λ (d : DeskEnd). d.places ≡ new.places) xs) (sym new.desks) (All-replicate (λ (d : DeskEnd). d.places ≡ new.places) r (new_desk new.places) refl);
+      all_desks = many ∙ sym new.for_reactors;
+      some_desk = (let a = many in omega arith);
+      all_threads = inl (new.thread_count ∙ sym new.for_threads);
+    }

@@ -44,10 +44,10 @@ kept_apart n r ws t w (x ∷ xs) h z =
     dite (ℕ_discrete x.thread t)
     (λ same. absurd (let c = times_here t x xs same in omega arith))
     (λ differ.
-      (let c = times_not_here t x xs differ in
-      All-cons Q x xs
-      (record { number = here.number; below = here.below; word = get_or-set_other ws (t + 2) (x.thread + 2) w 0 (λ e. differ (omega arith)) ∙ here.word })
-      (kept_apart n r ws t w xs (All-tail P x xs h) (omega arith))))
+    (let c = times_not_here t x xs differ in
+    All-cons Q x xs
+    (record { number = here.number; below = here.below; word = get_or-set_other ws (t + 2) (x.thread + 2) w 0 (λ e. differ (omega arith)) ∙ here.word })
+    (kept_apart n r ws t w xs (All-tail P x xs h) (omega arith))))
 
 -- no thread's word is one of the first two
 pub kept_low : (n r : ℕ) (ws : List ℕ) (i w : ℕ) (xs : List Stand) → i < 2 → All (IsStanding n r ws) xs → All (IsStanding n r (set ws i w)) xs
@@ -60,7 +60,7 @@ some_stand P t [] h all = absurd (omega arith)
 some_stand P t (x ∷ xs) h all = dite (ℕ_discrete x.thread t)
     (λ same. (x, same, All-head P x xs all, (0, omega arith, refl)))
     (λ differ.
-      (let c = times_not_here t x xs differ in
-      let r = some_stand P t xs (omega arith) (All-tail P x xs all) in
-      let k = r.3 in
-      (r.0, r.1, r.2, (suc k.0, (let l = k.1 in omega arith), k.2))))
+    (let c = times_not_here t x xs differ in
+    let r = some_stand P t xs (omega arith) (All-tail P x xs all) in
+    let k = r.3 in
+    (r.0, r.1, r.2, (suc k.0, (let l = k.1 in omega arith), k.2))))

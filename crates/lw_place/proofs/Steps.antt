@@ -1,6 +1,6 @@
 -- Each kind of step keeps the rule of the places.
 use Rattle.std.proofs.Common.{◌≡◌, ◌≢◌, ℕ, suc, ◌+◌, ◌-◌, ◌*◌, ◌%◌, ◌^◌, ◌<◌, ◌≤◌, min, max, List, [], ◌∷◌, length, set, refl, sym, ap, subst, ◌∙◌, arith, All, Contains, slice_index, Some, length-set, get_or-set_same, get_or-set_other}
-use Rattle.std.proofs.lemmas.List.Elements.{All-nil, All-cons, All-head}
+use Rattle.std.proofs.lemmas.List.Elements.{All-nil, All-cons, All-head, All-weaker}
 use mathlib.Core.Option.{none, some}
 use lib.ListN.{get_elem?}
 use Rattle.atomic_table.specs.Table.{State, Me, keeps, step, stepped, Allows}
@@ -243,8 +243,8 @@ learns_done homes slots id me some_threads s h _ at small =
       (
         refl,
         (λ has_all. (let none_else = others_none desks s.views id v at (omega arith) in
-        let only = total_only retired s.views id v at (λ j u apart e. (let z = none_else j u apart e in let k = (h.each j u e).retired_desks in omega arith)) in
-        omega arith)),
+            let only = total_only retired s.views id v at (λ j u apart e. (let z = none_else j u apart e in let k = (h.each j u e).retired_desks in omega arith)) in
+            omega arith)),
         (let a = g.done_seen in omega arith),
         omega arith,
       ),
@@ -262,8 +262,8 @@ learns_halt homes slots id me some_threads s h _ at small =
       (
         refl,
         (λ has_all. (let none_else = others_none desks s.views id v at (omega arith) in
-        let only = total_only halted s.views id v at (λ j u apart e. (let z = none_else j u apart e in let k = (h.each j u e).halted_desks in omega arith)) in
-        h.halt ∙ ap (λ k. min 1 k) only)),
+            let only = total_only halted s.views id v at (λ j u apart e. (let z = none_else j u apart e in let k = (h.each j u e).halted_desks in omega arith)) in
+            h.halt ∙ ap (λ k. min 1 k) only)),
       ),
     )
 
@@ -284,16 +284,22 @@ learns homes slots id me t some_threads below s h _ at small =
       (
         refl,
         (λ has_all.
-          (let none_else = others_none seats s.views id v at (omega arith) in
-          let only = total_only (seats_of t) s.views id v at (λ j u apart e. no_times t u.stands (none_else j u apart e)) in
-          let one = h.one_seat t (omega arith) in
-          let there = some_stand P t v.stands (omega arith) g.standing in
-          let x = there.0 in
-          let f = there.2 in
-          let is : word_of x.place ≡ n = sym (word_at s.words x t there.1 f.word) in
-          let place_is : x.place ≡ place_of n = sym (place_in_word homes.reactors x.place h.few f.below) ∙ ap place_of is in
-          let number : x.thread ≡ t + 2 - 2 = there.1 ∙ omega arith in
-          (subst IsWord is (is_word homes.reactors x.place h.few f.below), subst (λ (y : Stand). Contains v.stands y) (λ i. record { thread = number i; place = place_is i }) there.3))),
+            (let none_else = others_none seats s.views id v at (omega arith) in
+            let only = total_only (seats_of t) s.views id v at (λ j u apart e. no_times t u.stands (none_else j u apart e)) in
+            let one = h.one_seat t (omega arith) in
+            let there = some_stand P t v.stands (omega arith) g.standing in
+            let x = there.0 in
+            let f = there.2 in
+            let is : word_of x.place ≡ n = sym (word_at s.words x t there.1 f.word) in
+            let place_is : x.place ≡ place_of n = sym (place_in_word homes.reactors x.place h.few f.below) ∙ ap place_of is in
+            let number : x.thread ≡ t + 2 - 2 = there.1 ∙ omega arith in (
+              subst IsWord is (is_word homes.reactors x.place h.few f.below),
+              record {
+                among = subst (λ (y : Stand). Contains v.stands y) (λ i. record { thread = number i; place = place_is i }) there.3;
+                alone = All-weaker P (λ y. y.thread ≡ t + 2 - 2 → y.place ≡ place_of n)
+                    (λ y here it. (let this : y.thread ≡ t = it ∙ omega arith in sym (place_in_word homes.reactors y.place h.few here.below) ∙ ap place_of (sym (word_at s.words y t this here.word)))) v.stands g.standing;
+              },
+            ))),
       ),
     )
   where

@@ -170,8 +170,13 @@ LearnsDone step old word new =
 abbrev pub LearnsHalt : Step (Unit {0}) → Sat → ℕ → Sat → Type 0
 LearnsHalt step old word new = (new ≡ old) × (old.0.desks ≡ old.0.reactors → word ≡ min 1 old.0.halted)
 
+-- the thread is one of these, and all of these that are it stand there
+pub record StandsAt (xs : List Stand) (thread : ℕ) (p : Place) : Type 0 where
+  pub among : Contains xs (record { thread = thread; place = p })
+  pub alone : All (λ x. x.thread ≡ thread → x.place ≡ p) xs
+
 -- a seat with all threads learns where the one of this word stands, which is one of its own
 abbrev pub Learns : Step (Unit {0}) → Sat → ℕ → Sat → Type 0
 Learns step old word new =
     (new ≡ old)
-    × (length old.0.stands ≡ old.0.threads → IsWord word × Contains old.0.stands (record { thread = step.word - 2; place = place_of word }))
+    × (length old.0.stands ≡ old.0.threads → IsWord word × StandsAt old.0.stands (step.word - 2) (place_of word))

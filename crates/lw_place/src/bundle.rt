@@ -2,9 +2,9 @@
 //!
 //! The first one stands for all, and the others are dealt out of it. At the end of a run they are gathered into one again,
 //! which then knows the words.
-ghost use Rattle.std.specs.Prelude.{◌≡◌, ◌≢◌, ℕ, ◌+◌, ◌-◌, ◌<◌, ◌≤◌, true, false, [], ◌∷◌, length, Contains, IfOk};
+ghost use Rattle.std.specs.Prelude.{◌≡◌, ◌≢◌, ℕ, ◌+◌, ◌-◌, ◌<◌, ◌≤◌, true, false, [], ◌∷◌, length, IfOk};
 ghost use Rattle.lw_place.specs.PlaceWord.{IsBelow};
-ghost use Rattle.lw_place.specs.PlaceTable.{joined, less_first_thread, less_one_desk};
+ghost use Rattle.lw_place.specs.PlaceTable.{joined, less_first_thread, less_one_desk, StandsAt};
 ghost use Rattle.lw_place.specs.PlaceSeats.{thread_view, thread_of, places_of, new_desk};
 
 use crate::desk_seat::DeskSeat;
@@ -100,9 +100,7 @@ impl Bundle {
         ensures seen { self.old.view.done_seen ≤ result }
         ensures few { length self.old.view.stands ≤ self.old.view.threads }
     {
-        self.table
-            .shared
-            .load::<LearningDone>(&mut self.seat, DONE)
+        self.table.shared.load::<LearningDone>(&mut self.seat, DONE)
     }
 
     // Whether the run was halted: where it stands for all desks, whether one of them did so.
@@ -111,9 +109,7 @@ impl Bundle {
         ensures all { self.old.view.desks ≡ self.old.view.reactors →
             (result ≡ true → 1 ≤ self.old.view.halted) × (result ≡ false → self.old.view.halted ≡ 0) }
     {
-        self.table
-            .shared
-            .load::<LearningHalt>(&mut self.seat, HALT) == 1
+        self.table.shared.load::<LearningHalt>(&mut self.seat, HALT) == 1
     }
 
     // Where a thread stands: with all threads, one that it stands for.
@@ -121,7 +117,7 @@ impl Bundle {
         requires all { length self.old.view.stands ≡ self.old.view.threads }
         requires range { thread < self.old.view.threads }
         ensures same { self.new ≡ self.old }
-        ensures its { Contains self.old.view.stands (record { thread = thread; place = result }) }
+        ensures its { StandsAt self.old.view.stands thread result }
     {
         let word = self
             .table

@@ -94,7 +94,8 @@ impl DeskSeat {
     {
         self.table
             .shared
-            .load::<LookingAtHalt>(&mut self.seat, HALT) == 1
+            .load::<LookingAtHalt>(&mut self.seat, HALT)
+            == 1
     }
 
     /// Halts the run: from now on every desk finds it halted.

@@ -1,5 +1,6 @@
 //! What is known of the places once all seats are in one hand.
-ghost use Rattle.std.specs.Prelude.{◌≡◌, ℕ, ◌+◌, ◌<◌, ◌≤◌, true, false, [], ◌++◌, length, map, slice_index_or, All, Contains, IfOk};
+ghost use Rattle.std.specs.Prelude.{◌≡◌, ℕ, ◌+◌, ◌<◌, ◌≤◌, true, false, [], ◌++◌, length, map, slice_index_or, All, IfOk};
+ghost use Rattle.lw_place.specs.PlaceTable.{StandsAt};
 ghost use Rattle.lw_place.specs.PlaceSeats.{AreAllSeats, all_retired, all_halted, most_seen, stand, Places, places_of, Holds};
 
 use crate::bundle::Bundle;
@@ -34,7 +35,9 @@ pub fn gather(
     ensures count { IfOk result (λ w.
         All (λ d. length w.places.items ≡ d.places.threads) desks.items) }
     ensures places { IfOk result (λ w. (t : ℕ) (d : Place) → t < length w.places.items →
-        Contains (map stand threads.items) (record { thread = t; place = slice_index_or w.places.items t d })) }
+        StandsAt (map stand threads.items) t (slice_index_or w.places.items t d)) }
+    ensures ended { IfOk result (λ w. All (λ t. t.place ≡ Place.Ended) threads.items →
+        All (λ p. p ≡ Place.Ended) w.places.items) }
     ensures done { IfOk result (λ w. w.done ≡ all_retired desks.items) }
     ensures halted { IfOk result (λ w. (w.halted ≡ true → 1 ≤ all_halted desks.items)
         × (w.halted ≡ false → all_halted desks.items ≡ 0)) }
@@ -85,7 +88,7 @@ fn all_places(alloc: Global, mut whole: Bundle) -> Result<Vec<Place>, NoMemory>
     requires { length whole.view.stands ≡ whole.view.threads }
     ensures count { IfOk result (λ v. length v.items ≡ whole.view.threads) }
     ensures each { IfOk result (λ v. (t : ℕ) (d : Place) → t < whole.view.threads →
-        Contains whole.view.stands (record { thread = t; place = slice_index_or v.items t d })) }
+        StandsAt whole.view.stands t (slice_index_or v.items t d)) }
 {
     let mut places = Vec::new(alloc);
     for thread in 0..whole.threads() {

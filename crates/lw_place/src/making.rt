@@ -33,10 +33,7 @@ pub fn places(
 }
 
 // The places of threads that start in the lists of these homes.
-fn places_from(
-    alloc: Global,
-    homes: Homes,
-) -> Result<(Vec<ThreadSeat>, Vec<DeskSeat>), NoMemory>
+fn places_from(alloc: Global, homes: Homes) -> Result<(Vec<ThreadSeat>, Vec<DeskSeat>), NoMemory>
     requires threads { (1 ≤ length homes.of.items) × (length homes.of.items ≤ 127) }
     requires reactors { homes.reactors ≤ 16 }
     requires homes { All (λ home. home < homes.reactors) homes.of.items }

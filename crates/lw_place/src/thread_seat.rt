@@ -39,7 +39,7 @@ impl Model for ThreadSeat {
         × (s.seat.me.1 ≡ [])
         × IsSeat s.seat.table_id s.seat.me.0
         × (s.seat.me.0 ≡ thread_view s.seat.me.0.threads s.seat.me.0.reactors
-            (record { thread = s.thread; place = s.place }))
+        (record { thread = s.thread; place = s.place }))
         × (s.thread < s.seat.me.0.threads)
         × IsBelow s.seat.me.0.reactors s.place };
 }

@@ -1,8 +1,9 @@
-use Rattle.std.proofs.Common.{◌≡◌, ◌+◌, ◌≤◌, true, false, List, length, map, ap, sym, subst, ◌∙◌, arith, Contains}
+use Rattle.std.proofs.Common.{◌≡◌, ◌+◌, ◌≤◌, true, false, List, length, map, ap, sym, subst, ◌∙◌, arith}
 use Rattle.std.specs.Prelude.{slice_index_or}
+use Rattle.lw_place.specs.PlaceTable.{StandsAt}
 use Rattle.lw_place.specs.declared.table.Stand.{Stand}
 use Rattle.lw_place.specs.PlaceSeats.{BundleEnd, places_of, all_halted}
-use Rattle.lw_place.proofs.Gathers.{same_places, gathers, all_stand}
+use Rattle.lw_place.proofs.Gathers.{same_places, gathers, all_stand, ends_there}
 use Rattle.lw_place.proofs.gathering.gather.Goals as goal
 
 pub join_threads-whole-requires : goal.join_threads-whole-requires
@@ -17,15 +18,23 @@ all_places-requires c =
     let g = gathers c.args.threads.items c.args.desks.items c.join_desks.result w c.requires c.join_desks.ensures.of c.join_desks.ensures.holds c.join_threads-whole.ensures in
     let d = c.done-done.ensures in
     subst (λ (e : BundleEnd). length e.view.stands ≡ e.view.threads) (sym (c.halted-halted.ensures.same ∙ d.same))
-        (all_stand c.args.threads.items c.args.desks.items w c.done-done.result c.requires g d.all d.seen d.few)
+    (all_stand c.args.threads.items c.args.desks.items w c.done-done.result c.requires g d.all d.seen d.few)
 
 pub returns-clause-places : goal.returns-clause-places
 returns-clause-places c =
     let w = c.join_threads-whole.result in
     let g = gathers c.args.threads.items c.args.desks.items c.join_desks.result w c.requires c.join_desks.ensures.of c.join_desks.ensures.holds c.join_threads-whole.ensures in
     let now = ap (λ (e : BundleEnd). e.view.stands) (c.halted-halted.ensures.same ∙ c.done-done.ensures.same) ∙ g.stands in
-    λ t d l. subst (λ (xs : List Stand). Contains xs (record { thread = t; place = slice_index_or c.in_ok-places.places.items t d })) now
-        (c.in_ok-places.ensures.each t d (let n = c.in_ok-places.ensures.count in omega arith))
+    λ t d l. subst (λ (xs : List Stand). StandsAt xs t (slice_index_or c.in_ok-places.places.items t d)) now
+    (c.in_ok-places.ensures.each t d (let n = c.in_ok-places.ensures.count in omega arith))
+
+pub returns-clause-ended : goal.returns-clause-ended
+returns-clause-ended c =
+    let w = c.join_threads-whole.result in
+    let g = gathers c.args.threads.items c.args.desks.items c.join_desks.result w c.requires c.join_desks.ensures.of c.join_desks.ensures.holds c.join_threads-whole.ensures in
+    let now = ap (λ (e : BundleEnd). e.view.stands) (c.halted-halted.ensures.same ∙ c.done-done.ensures.same) ∙ g.stands in
+    λ ended k d l. ends_there c.args.threads.items k (slice_index_or c.in_ok-places.places.items k d) ended
+    (subst (λ (xs : List Stand). StandsAt xs k (slice_index_or c.in_ok-places.places.items k d)) now (c.in_ok-places.ensures.each k d (let n = c.in_ok-places.ensures.count in omega arith)))
 
 pub returns-clause-done : goal.returns-clause-done
 returns-clause-done c =

@@ -12,9 +12,10 @@ pub deal_thread-requires-clause-first : goal.deal_thread-requires-clause-first
 deal_thread-requires-clause-first c =
     let hs = c.args.homes.of.items in
     let t = c.loop-thread.thread in
-    let one = drop-cons hs t c.index.result.now (let a = c.loop-thread-test.true in let b = c.len-thread-end.ensures in omega arith) in
-    (stands_from (t + 1) (drop (suc t) hs),
-    ap (λ (v : PlaceView). v.stands) c.loop-thread.invariant.0 ∙ ap (λ l. stands_from t l) one ∙ (λ k. record { thread = t; place = place.List (sym c.index.ensures k) } ∷ stands_from (t + 1) (drop (suc t) hs)))
+    let one = drop-cons hs t c.index.result.now (let a = c.loop-thread-test.true in let b = c.len-thread-end.ensures in omega arith) in (
+      stands_from (t + 1) (drop (suc t) hs),
+      ap (λ (v : PlaceView). v.stands) c.loop-thread.invariant.0 ∙ ap (λ l. stands_from t l) one ∙ (λ k. record { thread = t; place = place.List (sym c.index.ensures k) } ∷ stands_from (t + 1) (drop (suc t) hs)),
+    )
 
 pub loop-thread-preserved : goal.loop-thread-preserved
 loop-thread-preserved c =

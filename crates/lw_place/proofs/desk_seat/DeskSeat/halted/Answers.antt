@@ -3,4 +3,4 @@ use Rattle.lw_place.proofs.Steps.{looks_at_halt}
 use Rattle.lw_place.proofs.desk_seat.DeskSeat.halted.Goals as goal
 
 pub load-requires : goal.load-requires
-load-requires c = (search rules, search rules, looks_at_halt _ _ _ _ )
+load-requires c = (search rules, search rules, looks_at_halt _ _ _ _)
