@@ -89,16 +89,3 @@ nil_from_length (x ∷ xs) e = absurd (omega arith)
 -- where all of these have ended, each has
 pub ends_there : (ts : List ThreadEnd) (k : ℕ) (p : Place) → All (λ t. t.place ≡ place.Ended) ts → StandsAt (map stand ts) k p → p ≡ place.Ended
 ends_there ts k p ended at = All-contains (λ (x : Stand). x.place ≡ place.Ended) (map stand ts) (record { thread = k; place = p }) (All-map (λ (x : Stand). x.place ≡ place.Ended) stand ts ended) at.among
-
--- the seats of new places are all
-pub all_of_new : (home : ℕ → ℕ) (n r : ℕ) (ts : List ThreadEnd) (ds : List DeskEnd) → 1 ≤ r → AreNew home n r ts ds → AreAllSeats ts ds
-all_of_new home n r ts ds some_desk new =
-    let many : length ds ≡ r = ap length new.desks ∙ length-replicate r (new_desk new.places) in
-    record {
-      places = new.places;
-      its_threads = λ k d l. ap (λ (t : ThreadEnd). t.places) (new.each_thread k d (let a = new.thread_count in omega arith));
-      its_desks = subst (λ xs. All (λ (d : DeskEnd). d.places ≡ new.places) xs) (sym new.desks) (All-replicate (λ (d : DeskEnd). d.places ≡ new.places) r (new_desk new.places) refl);
-      all_desks = many ∙ sym new.for_reactors;
-      some_desk = (let a = many in omega arith);
-      all_threads = inl (new.thread_count ∙ sym new.for_threads);
-    }
