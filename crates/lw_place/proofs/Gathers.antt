@@ -1,15 +1,15 @@
 -- Seats gathered into one.
-use Rattle.std.proofs.Common.{◌≡◌, ◌⊎◌, ℕ, zero, suc, ◌+◌, ◌<◌, ◌≤◌, max, List, [], ◌∷◌, ◌++◌, length, map, refl, sym, ap, subst, ◌∙◌, ⊎_elim, inl, arith, All, Any}
+use Rattle.std.proofs.Common.{◌≡◌, ℕ, zero, suc, ◌+◌, ◌<◌, ◌≤◌, max, List, [], ◌∷◌, ◌++◌, length, map, refl, sym, ap, subst, ◌∙◌, ⊎_elim, arith, All, Any}
 use Rattle.std.specs.Prelude.{slice_index_or}
-use Rattle.std.proofs.lemmas.List.{length-map, length-replicate, get_or_push, get_or_append_left}
-use Rattle.std.proofs.lemmas.List.Elements.{All-map, All-contains, All-replicate}
+use Rattle.std.proofs.lemmas.List.{length-map, get_or_push, get_or_append_left}
+use Rattle.std.proofs.lemmas.List.Elements.{All-map, All-contains}
 use Rattle.lw_place.specs.declared.place.Place.TheVariants as place
 use mathlib.Core.Logic.{dite}
 use native.Mathlib.Decide.{ℕ_discrete}
 use Rattle.lw_place.specs.PlaceTable.{StandsAt}
 use Rattle.lw_place.specs.declared.place.Place.{Place}
 use Rattle.lw_place.specs.declared.table.Stand.{Stand}
-use Rattle.lw_place.specs.PlaceSeats.{Places, ThreadEnd, DeskEnd, BundleEnd, places_of, stand, all_retired, all_halted, most_seen, AreEnded, AreAllSeats, AreNew, new_desk, Holds}
+use Rattle.lw_place.specs.PlaceSeats.{Places, ThreadEnd, DeskEnd, BundleEnd, places_of, stand, all_retired, all_halted, most_seen, AreEnded, AreAllSeats, Holds}
 
 -- what a desk saw is at most what was seen most
 seen_most : (n k : ℕ) (x : DeskEnd) (ds : List DeskEnd) → k < length ds → slice_index_or ds k x ≡ x → x.done_seen ≡ n → n ≤ most_seen ds

@@ -1,7 +1,7 @@
 -- One seat's view changes, and the rule is kept.
-use Rattle.std.proofs.Common.{◌≡◌, ◌≢◌, ℕ, ◌+◌, ◌*◌, ◌<◌, ◌≤◌, min, List, [], ◌∷◌, length, set, refl, sym, ap, subst, ◌∙◌, ⊎_elim, arith, All, slice_index}
+use Rattle.std.proofs.Common.{◌≡◌, ◌≢◌, ℕ, ◌+◌, ◌*◌, ◌≤◌, min, List, length, set, sym, subst, ◌∙◌, ⊎_elim, arith, All, slice_index}
 use Rattle.std.proofs.lemmas.List.{set-get_or}
-use mathlib.Core.Option.{some, Option}
+use mathlib.Core.Option.{some}
 use lib.ListN.{get_elem?}
 use Rattle.atomic_table.specs.Table.{State}
 use Rattle.atomic_table.proofs.Lists.{at_set}

@@ -1,11 +1,10 @@
 -- Threads and their words.
-use Rattle.std.proofs.Common.{◌≡◌, ◌≢◌, ℕ, zero, suc, ◌+◌, ◌<◌, ◌≤◌, ◌==◌, if◌then◌else◌, List, [], ◌∷◌, ◌++◌, length, set, map, refl, sym, ap, subst, ◌∙◌, arith, eq-eqb, ne_eqb, All, Contains, slice_index, get_or-set_same, get_or-set_other}
+use Rattle.std.proofs.Common.{◌≡◌, ◌≢◌, ℕ, suc, ◌+◌, ◌<◌, ◌≤◌, if◌then◌else◌, List, [], ◌∷◌, ◌++◌, length, set, refl, ap, ◌∙◌, arith, eq-eqb, ne_eqb, All, Contains, get_or-set_other}
 use Rattle.std.proofs.lemmas.List.Elements.{All-nil, All-cons, All-head, All-tail, All-weaker}
 use mathlib.Core.Logic.{dite}
 use native.Mathlib.Decide.{ℕ_discrete}
 use Rattle.lw_place.specs.declared.place.Place.{Place}
 use Rattle.lw_place.specs.declared.table.Stand.{Stand}
-use Rattle.lw_place.specs.PlaceWord.{word_of, IsBelow}
 use Rattle.lw_place.specs.PlaceTable.{times, moved_to, firsts, others, IsStanding}
 
 pub times_append : (t : ℕ) (xs ys : List Stand) → times t (xs ++ ys) ≡ times t xs + times t ys

@@ -1,16 +1,16 @@
 -- Each kind of step keeps the rule of the places.
-use Rattle.std.proofs.Common.{◌≡◌, ◌≢◌, ℕ, suc, ◌+◌, ◌-◌, ◌*◌, ◌%◌, ◌^◌, ◌<◌, ◌≤◌, min, max, List, [], ◌∷◌, length, set, refl, sym, ap, subst, ◌∙◌, arith, All, Contains, slice_index, Some, length-set, get_or-set_same, get_or-set_other}
+use Rattle.std.proofs.Common.{◌≡◌, ℕ, suc, ◌+◌, ◌-◌, ◌*◌, ◌%◌, ◌^◌, ◌<◌, ◌≤◌, min, List, [], ◌∷◌, length, set, refl, sym, ap, subst, ◌∙◌, arith, All, Contains, slice_index, Some, length-set, get_or-set_same, get_or-set_other}
 use Rattle.std.proofs.lemmas.List.Elements.{All-nil, All-cons, All-head, All-weaker}
 use mathlib.Core.Option.{none, some}
 use lib.ListN.{get_elem?}
-use Rattle.atomic_table.specs.Table.{State, Me, keeps, step, stepped, Allows}
+use Rattle.atomic_table.specs.Table.{Me, keeps, step, Allows}
 use Rattle.lw_place.specs.declared.place.Place.{Place}
 use Rattle.lw_place.specs.declared.table.Stand.{Stand}
 use Rattle.lw_place.specs.declared.table.Homes.{Homes}
 use Rattle.lw_place.specs.declared.table.PlaceView.{PlaceView}
 use Rattle.lw_place.specs.Totals.{total}
 use Rattle.lw_place.specs.PlaceWord.{word_of, place_of, IsBelow, IsWord}
-use Rattle.lw_place.specs.PlaceTable.{desks, retired, halted, seats, seats_of, times, moved_to, IsStanding, Fits, Placed, Moves, Retires, Halts, LooksAtDone, LooksAtHalt, Looks, LearnsDone, LearnsHalt, Learns}
+use Rattle.lw_place.specs.PlaceTable.{desks, retired, halted, seats, seats_of, times, moved_to, IsStanding, Placed, Moves, Retires, Halts, LooksAtDone, LooksAtHalt, Looks, LearnsDone, LearnsHalt, Learns}
 use Rattle.lw_place.proofs.Totals.{total_set, at_le, others_none, total_only, some_view}
 use Rattle.lw_place.proofs.Words.{place_in_word, is_word}
 use Rattle.lw_place.proofs.Standing.{times_moved, length_moved, times_here, kept_apart, kept_low, some_stand}

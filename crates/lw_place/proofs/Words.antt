@@ -1,5 +1,5 @@
 -- A place and its word are each other's.
-use Rattle.std.proofs.Common.{◌≡◌, ◌≢◌, ℕ, ◌+◌, ◌*◌, ◌/◌, ◌%◌, ◌<◌, ◌≤◌, ◌==◌, if◌then◌else◌, refl, sym, ap, arith, eq-eqb, ne_eqb}
+use Rattle.std.proofs.Common.{◌≡◌, ℕ, ◌+◌, ◌*◌, ◌/◌, ◌%◌, ◌<◌, ◌≤◌, if◌then◌else◌, refl, arith, eq-eqb, ne_eqb}
 use Rattle.lw_place.specs.declared.place.Place.{Place}
 use Rattle.lw_place.specs.declared.place.Place.TheVariants as place
 use Rattle.lw_place.specs.PlaceWord.{word_of, place_of, IsBelow, IsWord}

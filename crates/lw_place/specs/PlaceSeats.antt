@@ -1,5 +1,5 @@
 -- What callers see of the seats.
-use Rattle.std.specs.Prelude.{◌≡◌, ◌⊎◌, ℕ, ◌+◌, ◌<◌, ◌≤◌, max, List, [], ◌∷◌, length, map, replicate, All, Any, slice_index_or, Option, None}
+use Rattle.std.specs.Prelude.{◌≡◌, ◌⊎◌, ℕ, ◌+◌, ◌<◌, ◌≤◌, max, List, [], ◌∷◌, length, replicate, All, Any, slice_index_or, Option, None}
 use Rattle.atomic_table.specs.Seated.{TableId}
 use Rattle.lw_place.specs.declared.place.Place.TheVariants as place
 use Rattle.lw_place.specs.declared.place.Place.{Place}

@@ -1,5 +1,5 @@
 -- The word of a light thread: 2c in the list of reactor c, 2c + 1 in an event to c, the greatest u64 once it has ended.
-use Rattle.std.specs.Prelude.{◌≡◌, ◌≢◌, ℕ, ◌+◌, ◌*◌, ◌/◌, ◌%◌, ◌<◌, ◌==◌, if◌then◌else◌, ⊤}
+use Rattle.std.specs.Prelude.{◌≢◌, ℕ, ◌+◌, ◌*◌, ◌/◌, ◌%◌, ◌<◌, ◌==◌, if◌then◌else◌, ⊤}
 use Rattle.lw_place.specs.declared.place.Place.{Place}
 use Rattle.lw_place.specs.declared.place.Place.TheVariants as place
 

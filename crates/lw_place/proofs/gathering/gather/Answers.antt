@@ -1,8 +1,8 @@
-use Rattle.std.proofs.Common.{◌≡◌, ◌+◌, ◌≤◌, true, false, List, length, map, ap, sym, subst, ◌∙◌, arith}
+use Rattle.std.proofs.Common.{◌≡◌, ◌≤◌, List, length, ap, sym, subst, ◌∙◌, arith}
 use Rattle.std.specs.Prelude.{slice_index_or}
 use Rattle.lw_place.specs.PlaceTable.{StandsAt}
 use Rattle.lw_place.specs.declared.table.Stand.{Stand}
-use Rattle.lw_place.specs.PlaceSeats.{BundleEnd, places_of, all_halted}
+use Rattle.lw_place.specs.PlaceSeats.{BundleEnd, places_of}
 use Rattle.lw_place.proofs.Gathers.{same_places, gathers, all_stand, ends_there}
 use Rattle.lw_place.proofs.gathering.gather.Goals as goal
 

@@ -1,6 +1,6 @@
-use Rattle.std.proofs.Common.{◌≡◌, ◌++◌, length, map, All}
+use Rattle.std.proofs.Common.{◌≡◌, ◌++◌, map, All}
 use Rattle.std.specs.Vec.Iter.{into_iter_items}
-use Rattle.lw_place.specs.PlaceSeats.{ThreadEnd, places_of, stand, Holds}
+use Rattle.lw_place.specs.PlaceSeats.{ThreadEnd, places_of, stand}
 use Rattle.lw_place.proofs.gathering.join_threads.Given as goal
 
 -- what it stands for, and what is left, is what it stands for in the end

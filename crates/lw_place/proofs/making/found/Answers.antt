@@ -1,4 +1,4 @@
-use Rattle.std.proofs.Common.{rules, ap, ◌∙◌}
+use Rattle.std.proofs.Common.{ap, ◌∙◌}
 use Rattle.lw_place.specs.PlaceTable.{words_of}
 use Rattle.lw_place.proofs.Beginning.{begins}
 use Rattle.lw_place.proofs.making.found.Goals as goal

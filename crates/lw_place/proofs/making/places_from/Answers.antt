@@ -1,7 +1,6 @@
-use Rattle.std.proofs.Common.{rules, ◌≡◌, ℕ, suc, ◌+◌, ◌<◌, List, [], ◌∷◌, drop, length, replicate, refl, ap, sym, ◌∙◌, arith, drop-cons, get_or, length-append}
+use Rattle.std.proofs.Common.{◌≡◌, suc, ◌+◌, ◌<◌, [], ◌∷◌, drop, length, replicate, refl, ap, sym, ◌∙◌, arith, drop-cons, get_or, length-append}
 use Rattle.std.proofs.lemmas.List.{get_or_default}
 use Rattle.lw_place.specs.declared.place.Place.TheVariants as place
-use Rattle.lw_place.specs.declared.table.Stand.{Stand}
 use Rattle.lw_place.specs.declared.table.PlaceView.{PlaceView}
 use Rattle.lw_place.specs.PlaceTable.{stands_from, new_view, less_first_thread}
 use Rattle.lw_place.specs.PlaceSeats.{Places, BundleEnd, new_desk}

@@ -2,7 +2,7 @@ use Rattle.std.proofs.Common.{◌≡◌, ◌<◌, ◌-◌, ℕ, [], drop, length
 use Rattle.std.specs.Prelude.{slice_index, slice_index_or}
 use Rattle.lw_place.specs.declared.place.Place.TheVariants as place
 use Rattle.lw_place.specs.PlaceTable.{new_view, stands_from}
-use Rattle.lw_place.specs.PlaceSeats.{ThreadEnd, places_of, new_desk}
+use Rattle.lw_place.specs.PlaceSeats.{ThreadEnd, new_desk}
 use Rattle.lw_place.proofs.making.places_from.Given as goal
 
 abbrev pub invariant-loop-thread : goal.invariant-loop-thread
