@@ -9,7 +9,7 @@ use lw_model::Record;
 /// How a run ended.
 #[derive(Drop)]
 pub struct Finish {
-    /// 0 where there is no fault, else the fault's own (docs/program.md).
+    /// 0 where there is no fault, else the fault's own (docs/usage.md).
     pub status: u8,
     /// The record of the run, with status 0 and 4.
     pub told: Option<Record>,

@@ -1,0 +1,91 @@
+-- Seats gathered into one.
+use Rattle.std.proofs.Common.{◌≡◌, ℕ, zero, suc, ◌+◌, ◌<◌, ◌≤◌, max, List, [], ◌∷◌, ◌++◌, length, map, refl, sym, ap, subst, ◌∙◌, ⊎_elim, arith, All, Any}
+use Rattle.std.specs.Prelude.{slice_index_or}
+use Rattle.std.proofs.lemmas.List.{length-map, get_or_push, get_or_append_left}
+use Rattle.std.proofs.lemmas.List.Elements.{All-map, All-contains}
+use Rattle.lw_place.specs.declared.place.Place.TheVariants as place
+use mathlib.Core.Logic.{dite}
+use native.Mathlib.Decide.{ℕ_discrete}
+use Rattle.lw_place.specs.PlaceTable.{StandsAt}
+use Rattle.lw_place.specs.declared.place.Place.{Place}
+use Rattle.lw_place.specs.declared.table.Stand.{Stand}
+use Rattle.lw_place.specs.PlaceSeats.{Places, ThreadEnd, DeskEnd, BundleEnd, places_of, stand, all_retired, all_halted, most_seen, AreEnded, AreAllSeats, Holds}
+
+-- what a desk saw is at most what was seen most
+seen_most : (n k : ℕ) (x : DeskEnd) (ds : List DeskEnd) → k < length ds → slice_index_or ds k x ≡ x → x.done_seen ≡ n → n ≤ most_seen ds
+seen_most n k x [] l is e = absurd (omega arith)
+seen_most n zero x (d ∷ ds) l is e = let same = ap (λ (y : DeskEnd). y.done_seen) is in omega arith
+seen_most n (suc k) x (d ∷ ds) l is e = let r = seen_most n k x ds (omega arith) is e in omega arith
+
+any_seen : (n : ℕ) (ds : List DeskEnd) → Any (λ d. d.done_seen ≡ n) ds → n ≤ most_seen ds
+any_seen n ds a = seen_most n a.0 a.1 ds a.2 a.3 a.4
+
+pub most_snoc : (ds : List DeskEnd) (d : DeskEnd) → most_seen (ds ++ d ∷ []) ≡ max (most_seen ds) d.done_seen
+most_snoc [] d = omega arith
+most_snoc (x ∷ ds) d = let r = most_snoc ds d in omega arith
+
+-- all desks are of one table's places
+pub same_places : (p q : Places) (ds : List DeskEnd) → 1 ≤ length ds → All (λ d. d.places ≡ p) ds → All (λ d. d.places ≡ q) ds → p ≡ q
+same_places p q [] some_desk h g = absurd (omega arith)
+same_places p q (d ∷ ds) some_desk h g = sym (h 0 d (omega arith)) ∙ g 0 d (omega arith)
+
+-- what the seat knows into which all were gathered
+pub record Gathered (p : Places) (ts : List ThreadEnd) (ds : List DeskEnd) (b : BundleEnd) : Type 0 where
+  pub of : p ≡ places_of b.table b.view
+  pub desks : b.view.desks ≡ b.view.reactors
+  pub retired : b.view.retired ≡ all_retired ds
+  pub halted : b.view.halted ≡ all_halted ds
+  pub seen : b.view.done_seen ≡ most_seen ds
+  pub stands : b.view.stands ≡ map stand ts
+
+pub gathers : (ts : List ThreadEnd) (ds : List DeskEnd) (j w : BundleEnd) (a : AreAllSeats ts ds)
+    → All (λ d. d.places ≡ places_of j.table j.view) ds
+    → Holds (places_of j.table j.view) (length ds) (all_retired ds) (all_halted ds) (most_seen ds) [] j
+    → Holds (places_of j.table j.view) j.view.desks j.view.retired j.view.halted j.view.done_seen (j.view.stands ++ map stand ts) w
+    → Gathered a.places ts ds w
+gathers ts ds j w a of h g =
+    let same = same_places a.places (places_of j.table j.view) ds a.some_desk a.its_desks of in
+    let now : a.places ≡ places_of w.table w.view = same ∙ sym g.of in
+    record {
+      of = now;
+      desks = (let r = ap (λ (p : Places). p.reactors) now in let d = h.desks in let e = g.desks in let all = a.all_desks in omega arith);
+      retired = g.retired ∙ h.retired;
+      halted = g.halted ∙ h.halted;
+      seen = g.seen ∙ h.seen;
+      stands = g.stands ∙ ap (λ (xs : List Stand). xs ++ map stand ts) h.stands;
+    }
+
+-- all threads are there: by their count, or since a desk saw as many retired as there are
+pub all_stand : (ts : List ThreadEnd) (ds : List DeskEnd) (w : BundleEnd) (done : ℕ) (a : AreAllSeats ts ds) → Gathered a.places ts ds w
+    → (w.view.desks ≡ w.view.reactors → done ≡ w.view.retired) → w.view.done_seen ≤ done → length w.view.stands ≤ w.view.threads → length w.view.stands ≡ w.view.threads
+all_stand ts ds w done a g is seen few =
+    let n = ap (λ (p : Places). p.threads) g.of in
+    let long : length w.view.stands ≡ length ts = ap length g.stands ∙ length-map ts stand in
+    ⊎_elim (λ (all : length ts ≡ a.places.threads). omega arith)
+    (λ (e : AreEnded a.places ts ds).
+    (let most = any_seen a.places.threads ds e.seen in
+    let r = e.retired in
+    let count = is g.desks in
+    let x = g.retired in
+    let y = g.seen in
+    omega arith))
+    a.all_threads
+
+-- one more thread's place is known
+pub one_more_place : (xs : List Stand) (ps qs : List Place) (n : ℕ) (p : Place) → qs ≡ ps ++ p ∷ [] → length ps ≡ n
+    → ((t : ℕ) (d : Place) → t < n → StandsAt xs t (slice_index_or ps t d))
+    → StandsAt xs n p
+    → (t : ℕ) (d : Place) → t < n + 1 → StandsAt xs t (slice_index_or qs t d)
+one_more_place xs ps qs n p is long before last t d l = dite (ℕ_discrete t n)
+    (λ same. (let at : slice_index_or qs t d ≡ p = ap (λ (l : List Place). slice_index_or l t d) is ∙ get_or_push ps p d t (long ∙ sym same) in
+    subst (λ (y : Stand). StandsAt xs y.thread y.place) (λ i. record { thread = sym same i; place = sym at i }) last))
+    (λ differ. (let at : slice_index_or qs t d ≡ slice_index_or ps t d = ap (λ (l : List Place). slice_index_or l t d) is ∙ get_or_append_left ps (p ∷ []) d t (omega arith) in
+    subst (λ (q : Place). StandsAt xs t q) (sym at) (before t d (omega arith))))
+
+pub nil_from_length : {X : Type 0} (xs : List X) → length xs ≡ 0 → xs ≡ []
+nil_from_length [] e = refl
+nil_from_length (x ∷ xs) e = absurd (omega arith)
+
+-- where all of these have ended, each has
+pub ends_there : (ts : List ThreadEnd) (k : ℕ) (p : Place) → All (λ t. t.place ≡ place.Ended) ts → StandsAt (map stand ts) k p → p ≡ place.Ended
+ends_there ts k p ended at = All-contains (λ (x : Stand). x.place ≡ place.Ended) (map stand ts) (record { thread = k; place = p }) (All-map (λ (x : Stand). x.place ≡ place.Ended) stand ts ended) at.among

@@ -1,0 +1,8 @@
+mod Totals
+mod Words
+mod Standing
+mod Rule
+mod Steps
+mod Dealing
+mod Beginning
+mod Gathers

@@ -1,0 +1,6 @@
+use Rattle.std.proofs.Common.{rules}
+use Rattle.lw_place.proofs.Steps.{learns_done}
+use Rattle.lw_place.proofs.bundle.Bundle.done.Goals as goal
+
+pub load-requires : goal.load-requires
+load-requires c = (search rules, search rules, learns_done _ _ _ _ c.self.invariant.2.some_threads)

@@ -1,0 +1,11 @@
+use Rattle.std.proofs.Common.{◌≡◌, ◌<◌, ℕ, length}
+use Rattle.std.specs.Prelude.{slice_index_or}
+use Rattle.lw_place.specs.PlaceTable.{StandsAt}
+use Rattle.lw_place.specs.declared.place.Place.{Place}
+use Rattle.lw_place.proofs.gathering.all_places.Given as goal
+
+abbrev pub invariant-loop-thread : goal.invariant-loop-thread
+invariant-loop-thread l =
+    (l.whole ≡ l.initial.whole)
+    × (length l.places.items ≡ l.thread)
+    × ((t : ℕ) (d : Place) → t < l.thread → StandsAt l.whole.view.stands t (slice_index_or l.places.items t d))

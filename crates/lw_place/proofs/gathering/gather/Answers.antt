@@ -1,0 +1,52 @@
+use Rattle.std.proofs.Common.{◌≡◌, ◌≤◌, List, length, ap, sym, subst, ◌∙◌, arith}
+use Rattle.std.specs.Prelude.{slice_index_or}
+use Rattle.lw_place.specs.PlaceTable.{StandsAt}
+use Rattle.lw_place.specs.declared.table.Stand.{Stand}
+use Rattle.lw_place.specs.PlaceSeats.{BundleEnd, places_of}
+use Rattle.lw_place.proofs.Gathers.{same_places, gathers, all_stand, ends_there}
+use Rattle.lw_place.proofs.gathering.gather.Goals as goal
+
+pub join_threads-whole-requires : goal.join_threads-whole-requires
+join_threads-whole-requires c =
+    let a = c.requires in
+    let j = c.join_desks.result in
+    λ k d l. a.its_threads k d l ∙ same_places a.places (places_of j.table j.view) c.args.desks.items a.some_desk a.its_desks c.join_desks.ensures.of
+
+pub all_places-requires : goal.all_places-requires
+all_places-requires c =
+    let w = c.join_threads-whole.result in
+    let g = gathers c.args.threads.items c.args.desks.items c.join_desks.result w c.requires c.join_desks.ensures.of c.join_desks.ensures.holds c.join_threads-whole.ensures in
+    let d = c.done-done.ensures in
+    subst (λ (e : BundleEnd). length e.view.stands ≡ e.view.threads) (sym (c.halted-halted.ensures.same ∙ d.same))
+    (all_stand c.args.threads.items c.args.desks.items w c.done-done.result c.requires g d.all d.seen d.few)
+
+pub returns-clause-places : goal.returns-clause-places
+returns-clause-places c =
+    let w = c.join_threads-whole.result in
+    let g = gathers c.args.threads.items c.args.desks.items c.join_desks.result w c.requires c.join_desks.ensures.of c.join_desks.ensures.holds c.join_threads-whole.ensures in
+    let now = ap (λ (e : BundleEnd). e.view.stands) (c.halted-halted.ensures.same ∙ c.done-done.ensures.same) ∙ g.stands in
+    λ t d l. subst (λ (xs : List Stand). StandsAt xs t (slice_index_or c.in_ok-places.places.items t d)) now
+    (c.in_ok-places.ensures.each t d (let n = c.in_ok-places.ensures.count in omega arith))
+
+pub returns-clause-ended : goal.returns-clause-ended
+returns-clause-ended c =
+    let w = c.join_threads-whole.result in
+    let g = gathers c.args.threads.items c.args.desks.items c.join_desks.result w c.requires c.join_desks.ensures.of c.join_desks.ensures.holds c.join_threads-whole.ensures in
+    let now = ap (λ (e : BundleEnd). e.view.stands) (c.halted-halted.ensures.same ∙ c.done-done.ensures.same) ∙ g.stands in
+    λ ended k d l. ends_there c.args.threads.items k (slice_index_or c.in_ok-places.places.items k d) ended
+    (subst (λ (xs : List Stand). StandsAt xs k (slice_index_or c.in_ok-places.places.items k d)) now (c.in_ok-places.ensures.each k d (let n = c.in_ok-places.ensures.count in omega arith)))
+
+pub returns-clause-done : goal.returns-clause-done
+returns-clause-done c =
+    let w = c.join_threads-whole.result in
+    let g = gathers c.args.threads.items c.args.desks.items c.join_desks.result w c.requires c.join_desks.ensures.of c.join_desks.ensures.holds c.join_threads-whole.ensures in
+    c.done-done.ensures.all g.desks ∙ g.retired
+
+pub returns-clause-halted : goal.returns-clause-halted
+returns-clause-halted c =
+    let w = c.join_threads-whole.result in
+    let g = gathers c.args.threads.items c.args.desks.items c.join_desks.result w c.requires c.join_desks.ensures.of c.join_desks.ensures.holds c.join_threads-whole.ensures in
+    let same = c.done-done.ensures.same in
+    let told = c.halted-halted.ensures.all (ap (λ (e : BundleEnd). e.view.desks) same ∙ g.desks ∙ sym (ap (λ (e : BundleEnd). e.view.reactors) same)) in
+    let is = ap (λ (e : BundleEnd). e.view.halted) same ∙ g.halted in
+    ((λ yes. subst (λ n. 1 ≤ n) is (told.0 yes)), λ no. sym is ∙ told.1 no)

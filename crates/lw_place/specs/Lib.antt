@@ -1,0 +1,4 @@
+pub mod Totals
+pub mod PlaceWord
+pub mod PlaceTable
+pub mod PlaceSeats

@@ -1,0 +1,182 @@
+-- The words of the places and what ties them to the seats. Word 0 counts the retired threads, word 1 is the halt word,
+-- and word t + 2 is the place of thread t.
+use Rattle.std.specs.Prelude.{◌≡◌, ℕ, ◌+◌, ◌-◌, ◌*◌, ◌<◌, ◌≤◌, ◌==◌, if◌then◌else◌, min, max, List, [], ◌∷◌, ◌++◌, length, map, slice_index, All, Contains, Some, None}
+use mathlib.Core.Option.{some}
+use lib.ListN.{get_elem?}
+use Rattle.atomic_table.specs.Table.{State, Me, Step}
+use Rattle.lw_place.specs.declared.place.Place.TheVariants as place
+use Rattle.lw_place.specs.declared.place.Place.{Place}
+use Rattle.lw_place.specs.declared.table.Stand.{Stand}
+use Rattle.lw_place.specs.declared.table.Homes.{Homes}
+use Rattle.lw_place.specs.declared.table.PlaceView.{PlaceView}
+use Rattle.lw_place.specs.Totals.{total}
+use Rattle.lw_place.specs.PlaceWord.{word_of, place_of, IsBelow, IsWord}
+
+abbrev pub desks : PlaceView → ℕ
+desks v = v.desks
+
+abbrev pub retired : PlaceView → ℕ
+retired v = v.retired
+
+abbrev pub halted : PlaceView → ℕ
+halted v = v.halted
+
+-- how many threads a view stands for
+abbrev pub seats : PlaceView → ℕ
+seats v = length v.stands
+
+-- how often a thread is among these
+abbrev pub times : ℕ → List Stand → ℕ
+times thread [] = 0
+times thread (x ∷ xs) = (if x.thread == thread then 1 else 0) + times thread xs
+
+abbrev pub seats_of : ℕ → PlaceView → ℕ
+seats_of thread v = times thread v.stands
+
+-- the thread is one of so many, its reactor too, and its word is its place
+pub record IsStanding (threads reactors : ℕ) (words : List ℕ) (x : Stand) : Type 0 where
+  pub number : x.thread < threads
+  pub below : IsBelow reactors x.place
+  pub word : slice_index words (x.thread + 2) ≡ word_of x.place
+
+-- what the rule says of one view, where so many threads are retired and so many desks have halted
+pub record Fits (threads reactors : ℕ) (words : List ℕ) (done halts : ℕ) (v : PlaceView) : Type 0 where
+  pub of_table : 1 ≤ v.threads → (v.threads ≡ threads) × (v.reactors ≡ reactors)
+  pub standing : All (IsStanding threads reactors words) v.stands
+  -- a desk retires at most as many threads as there can be
+  pub retired_desks : v.retired ≤ 127 * v.desks
+  -- only a desk halts the run
+  pub halted_desks : v.halted ≤ v.desks
+  -- what was seen of the count and of the halt word is so
+  pub done_seen : v.done_seen ≤ done
+  pub halt_seen : v.halt_seen ≤ halts
+
+-- the rule: each thread has one seat and its word is the place that the seat keeps, the count is what all desks have
+-- retired, and the halt word is 1 exactly where a desk has halted
+pub record Placed (homes : Homes) (s : State (Unit {0}) PlaceView) : Type 0 where
+  pub few : homes.reactors ≤ 16
+  pub words : length s.words ≡ length homes.of.items + 2
+  pub done : slice_index s.words 0 ≡ total retired s.views
+  pub halt : slice_index s.words 1 ≡ min 1 (total halted s.views)
+  pub all_desks : total desks s.views ≡ homes.reactors
+  pub all_seats : total seats s.views ≡ length homes.of.items
+  pub one_seat : (thread : ℕ) → thread < length homes.of.items → total (seats_of thread) s.views ≡ 1
+  pub each : (i : ℕ) (v : PlaceView) → get_elem? s.views i ≡ some v → Fits (length homes.of.items) homes.reactors s.words (total retired s.views) (total halted s.views) v
+
+-- the threads from a number on, each in the list of its home
+abbrev pub stands_from : ℕ → List ℕ → List Stand
+stands_from thread [] = []
+stands_from thread (home ∷ homes) = record { thread = thread; place = place.List home } ∷ stands_from (thread + 1) homes
+
+-- the words at the start
+abbrev pub words_of : List ℕ → List ℕ
+words_of homes = 0 ∷ 0 ∷ map (λ home. 2 * home) homes
+
+-- a view of a seat that has done nothing
+abbrev pub new_view : ℕ → ℕ → List Stand → ℕ → PlaceView
+new_view threads reactors stands desks = record { threads = threads; reactors = reactors; stands = stands; desks = desks; retired = 0; halted = 0; looks = 0; done_seen = 0; halt_seen = 0; found = None }
+
+-- a new table's one view stands for all
+abbrev pub first_view : Homes → PlaceView
+first_view homes = new_view (length homes.of.items) homes.reactors (stands_from 0 homes.of.items) homes.reactors
+
+-- the view of a seat that was joined away
+abbrev pub spent_view : PlaceView
+spent_view = new_view 0 0 [] 0
+
+-- the first of these threads, and the others
+abbrev pub firsts : List Stand → List Stand
+firsts [] = []
+firsts (x ∷ xs) = x ∷ []
+
+abbrev pub others : List Stand → List Stand
+others [] = []
+others (x ∷ xs) = xs
+
+abbrev pub first_thread : PlaceView → PlaceView
+first_thread v = new_view v.threads v.reactors (firsts v.stands) 0
+
+abbrev pub less_first_thread : PlaceView → PlaceView
+less_first_thread v = record v { stands = others v.stands }
+
+abbrev pub one_desk : PlaceView → PlaceView
+one_desk v = new_view v.threads v.reactors [] 1
+
+abbrev pub less_one_desk : PlaceView → PlaceView
+less_one_desk v = record v { desks = v.desks - 1 }
+
+-- what two seats know together
+abbrev pub joined : PlaceView → PlaceView → PlaceView
+joined v w = record {
+  threads = v.threads;
+  reactors = v.reactors;
+  stands = v.stands ++ w.stands;
+  desks = v.desks + w.desks;
+  retired = v.retired + w.retired;
+  halted = v.halted + w.halted;
+  looks = v.looks + w.looks;
+  done_seen = max v.done_seen w.done_seen;
+  halt_seen = max v.halt_seen w.halt_seen;
+  found = v.found;
+}
+
+-- a seat: its view, and the slots that it holds, none here
+abbrev Sat : Type 0
+Sat = Me (Unit {0}) PlaceView
+
+-- What each kind of step tells, of the seat before it, the word that it found and the seat after it.
+
+-- the first of these threads stands elsewhere
+abbrev pub moved_to : Place → List Stand → List Stand
+moved_to p [] = []
+moved_to p (x ∷ xs) = record x { place = p } ∷ xs
+
+abbrev pub Moves : Step (Unit {0}) → Sat → ℕ → Sat → Type 0
+Moves step old word new = new ≡ (record old.0 { stands = moved_to (place_of step.first) old.0.stands }, old.1)
+
+abbrev pub Retires : Step (Unit {0}) → Sat → ℕ → Sat → Type 0
+Retires step old word new = new ≡ (record old.0 { retired = old.0.retired + 1 }, old.1)
+
+abbrev pub Halts : Step (Unit {0}) → Sat → ℕ → Sat → Type 0
+Halts step old word new = new ≡ (record old.0 { halted = 1 }, old.1)
+
+abbrev pub LooksAtDone : Step (Unit {0}) → Sat → ℕ → Sat → Type 0
+LooksAtDone step old word new =
+    (new ≡ (record old.0 { looks = old.0.looks + 1; done_seen = word }, old.1))
+    × (old.0.done_seen ≤ word)
+    × (old.0.retired ≤ word)
+
+abbrev pub LooksAtHalt : Step (Unit {0}) → Sat → ℕ → Sat → Type 0
+LooksAtHalt step old word new =
+    (new ≡ (record old.0 { looks = old.0.looks + 1; halt_seen = word }, old.1))
+    × (word ≤ 1)
+    × (1 ≤ max old.0.halted old.0.halt_seen → word ≡ 1)
+
+abbrev pub Looks : Step (Unit {0}) → Sat → ℕ → Sat → Type 0
+Looks step old word new =
+    (new ≡ (record old.0 { looks = old.0.looks + 1; found = Some (record { thread = step.word - 2; place = place_of word }) }, old.1))
+    × IsBelow old.0.reactors (place_of word)
+    × IsWord word
+
+-- a seat with all desks learns that the count is its own; it stands for no more threads than there are, and what it saw
+-- of the count is at most the count
+abbrev pub LearnsDone : Step (Unit {0}) → Sat → ℕ → Sat → Type 0
+LearnsDone step old word new =
+    (new ≡ old)
+    × (old.0.desks ≡ old.0.reactors → word ≡ old.0.retired)
+    × (old.0.done_seen ≤ word)
+    × (length old.0.stands ≤ old.0.threads)
+
+abbrev pub LearnsHalt : Step (Unit {0}) → Sat → ℕ → Sat → Type 0
+LearnsHalt step old word new = (new ≡ old) × (old.0.desks ≡ old.0.reactors → word ≡ min 1 old.0.halted)
+
+-- the thread is one of these, and all of these that are it stand there
+pub record StandsAt (xs : List Stand) (thread : ℕ) (p : Place) : Type 0 where
+  pub among : Contains xs (record { thread = thread; place = p })
+  pub alone : All (λ x. x.thread ≡ thread → x.place ≡ p) xs
+
+-- a seat with all threads learns where the one of this word stands, which is one of its own
+abbrev pub Learns : Step (Unit {0}) → Sat → ℕ → Sat → Type 0
+Learns step old word new =
+    (new ≡ old)
+    × (length old.0.stands ≡ old.0.threads → IsWord word × StandsAt old.0.stands (step.word - 2) (place_of word))

@@ -1,0 +1,116 @@
+//! A light thread's seat.
+ghost use Rattle.std.specs.Prelude.{◌≡◌, ◌≢◌, ℕ, ◌<◌};
+ghost use Rattle.lw_place.specs.PlaceWord.{IsBelow};
+ghost use Rattle.lw_place.specs.PlaceSeats.{IsList, IsEvent, thread_view, stand};
+
+use crate::bundle::Bundle;
+use crate::place::Place;
+use crate::table::{FIRST_THREAD, Moving, PlaceTable, PlaceView};
+use atomic_table::Seat;
+use std::alloc::Global;
+use std::marker::Model;
+use std::sync::Arc;
+
+/// The one seat of a light thread. It goes where the thread goes, and alone writes the thread's word.
+#[derive(Drop)]
+pub struct ThreadSeat {
+    pub(crate) table: Arc<PlaceTable, Global>,
+    pub(crate) seat: Seat<(), PlaceView>,
+    pub(crate) thread: u32,
+    pub(crate) place: Place,
+}
+
+impl Model for ThreadSeat {
+    ghost use Rattle.lw_place.specs.PlaceWord.{IsBelow};
+    ghost use Rattle.lw_place.specs.PlaceSeats.{ThreadEnd, IsSeat, thread_view, places_of};
+    ghost use Rattle.std.specs.Prelude.{◌≡◌, ◌<◌, []};
+    ghost use Rattle.std.specs.Arc.{arc_value};
+
+    ghost Value = { ThreadEnd };
+
+    ghost view = { λ s. record {
+      places = places_of s.seat.table_id s.seat.me.0;
+      thread = s.thread;
+      place = s.place;
+    } };
+
+    ghost invariant = { λ s.
+        (s.seat.table_id ≡ (arc_value s.table).shared.table_id)
+        × (s.seat.me.1 ≡ [])
+        × IsSeat s.seat.table_id s.seat.me.0
+        × (s.seat.me.0 ≡ thread_view s.seat.me.0.threads s.seat.me.0.reactors
+        (record { thread = s.thread; place = s.place }))
+        × (s.thread < s.seat.me.0.threads)
+        × IsBelow s.seat.me.0.reactors s.place };
+}
+
+impl ThreadSeat {
+    /// The thread leaves for a reactor: it is in an event to it from now on.
+    pub fn leave_for(&mut self, to: u32)
+        requires place { self.old.place ≢ Place.Ended }
+        requires range { to < self.old.places.reactors }
+        ensures { self.new ≡ record self.old { place = Place.Event to } }
+    {
+        self.move_to(Place::Event(to));
+    }
+
+    /// The thread arrives: it is in the list of the reactor that its event went to.
+    pub fn arrive(&mut self)
+        requires { IsEvent self.old.place }
+        ensures { (reactor : ℕ) → self.old.place ≡ Place.Event reactor →
+            self.new ≡ record self.old { place = Place.List reactor } }
+    {
+        match self.place {
+            Place::Event(reactor) => self.move_to(Place::List(reactor)),
+            _ => unreachable!(),
+        }
+    }
+
+    /// The thread, which is in a reactor's list, has ended.
+    pub fn end(&mut self)
+        requires { IsList self.old.place }
+        ensures { self.new ≡ record self.old { place = Place.Ended } }
+    {
+        self.move_to(Place::Ended);
+    }
+
+    /// Where the thread stands, which is what its word says.
+    pub fn place(&self) -> Place
+        ensures { result ≡ self.now.place }
+    {
+        self.place
+    }
+
+    /// The thread's number.
+    pub fn thread(&self) -> u32
+        ensures { result ≡ self.now.thread }
+    {
+        self.thread
+    }
+
+    // One store of the thread's word.
+    fn move_to(&mut self, place: Place)
+        requires { IsBelow self.old.places.reactors place }
+        ensures { self.new ≡ record self.old { place = place } }
+    {
+        let word = self.thread as usize + FIRST_THREAD;
+        self.table
+            .shared
+            .store::<Moving>(&mut self.seat, word, place.word());
+        self.place = place;
+    }
+
+    // The same seat, to be gathered.
+    pub(crate) fn into_bundle(self) -> Bundle
+        ensures { (result.table ≡ self.places.table)
+            × (result.view ≡ thread_view self.places.threads self.places.reactors (stand self)) }
+    {
+        let ThreadSeat {
+            table,
+            seat,
+            thread: _,
+            place: _,
+        } = self;
+        Bundle { table, seat }
+    }
+}
