@@ -1,6 +1,7 @@
 -- What ops may be answered, by what the thread did before.
 use Rattle.std.specs.Prelude.{ℕ, zero, suc, ◌+◌, ◌≤◌, ◌==◌, nat_lt, nat_le, Bool, true, false, cond, ◌&&◌, ◌||◌, not, IsTrue, List, [], ◌∷◌, length, map, filter, Option, Some, None, slice_get, take_while}
 use Rattle.std.specs.List.{list_all, list_any}
+use Rattle.lw_model.specs.declared.script.Script.{Script}
 use Rattle.lw_model.specs.declared.script.Op.{Op}
 use Rattle.lw_model.specs.declared.script.Op.TheVariants as op
 use Rattle.lw_base.specs.declared.message.What.{What}
@@ -24,8 +25,8 @@ unanswered (step.Called i x ∷ past) = unanswered past
 unanswered (step.Ran i m ∷ past) = elim m.what [ what.Reply k ↦ filter (λ j. not (j == k)) (unanswered past) | _ ↦ unanswered past ]
 
 -- those of them that are on image d
-abbrev pub unanswered_on : Record → ℕ → ℕ → List Step → List ℕ
-unanswered_on r t d past = filter (is_on r.script t d) (unanswered past)
+abbrev pub unanswered_on : Script → ℕ → ℕ → List Step → List ℕ
+unanswered_on s t d past = filter (is_on s t d) (unanswered past)
 
 -- what a get may be answered, by the ordinal that is held
 abbrev pub get_fits : Option ℕ → Answer → Bool
@@ -65,23 +66,23 @@ is_waited answer.Waited = true
 is_waited _ = false
 
 -- the answer is one that the op allows where the steps of `past` stand before it; past the last op stands `closed`
-abbrev pub answer_fits : Record → ℕ → List Step → Option Op → Answer → Bool
-answer_fits r t past None a = is_closed a && length (unanswered past) == 0
-answer_fits r t past (Some o) a = elim o [
-  | op.Get d ↦ get_fits (held (is_on r.script t d) d past) a
-  | op.Put d ↦ put_fits (references (is_on r.script t d) past) a && length (unanswered_on r t d past) == 0
-  | op.Write d start count pattern ↦ request_fits (references (is_on r.script t d) past) a
-  | op.Read d start count ↦ request_fits (references (is_on r.script t d) past) a
-  | op.Flush d ↦ request_fits (references (is_on r.script t d) past) a
+abbrev pub answer_fits : Script → ℕ → List Step → Option Op → Answer → Bool
+answer_fits s t past None a = is_closed a && length (unanswered past) == 0
+answer_fits s t past (Some o) a = elim o [
+  | op.Get d ↦ get_fits (held (is_on s t d) d past) a
+  | op.Put d ↦ put_fits (references (is_on s t d) past) a && length (unanswered_on s t d past) == 0
+  | op.Write d start count pattern ↦ request_fits (references (is_on s t d) past) a
+  | op.Read d start count ↦ request_fits (references (is_on s t d) past) a
+  | op.Flush d ↦ request_fits (references (is_on s t d) past) a
   | op.Wait ticks ↦ is_waited a
   | op.Visit d ↦ visit_fits a
   | op.Each ↦ is_started a
-  | op.Unregister d ↦ unregister_fits a && length (unanswered_on r t d past) == 0
+  | op.Unregister d ↦ unregister_fits a && length (unanswered_on s t d past) == 0
 ]
 
 -- a request is sent only while fewer are unanswered than the depth
-abbrev pub depth_fits : Record → ℕ → List Step → Answer → Bool
-depth_fits r t past a = not (is_sent a) || nat_lt (length (unanswered past)) (depth_of r.script t)
+abbrev pub depth_fits : Script → ℕ → List Step → Answer → Bool
+depth_fits s t past a = not (is_sent a) || nat_lt (length (unanswered past)) (depth_of s t)
 
 -- `w` completes the op k, which started
 abbrev pub completes : Option Op → ℕ → What → Bool
@@ -95,18 +96,18 @@ is_did i (step.Did j x) = j == i
 is_did i _ = false
 
 -- since the `did` line of place i the thread ran what completes it, if it started something
-abbrev pub is_completed : Record → ℕ → List Step → ℕ → Did → Bool
-is_completed r t past i x = not (is_started x.answer) || list_any (runs (completes (op_at r.script t x.op) x.op)) (take_while (λ s. not (is_did i s)) past)
+abbrev pub is_completed : Script → ℕ → List Step → ℕ → Did → Bool
+is_completed s t past i x = not (is_started x.answer) || list_any (runs (completes (op_at s t x.op) x.op)) (take_while (λ s. not (is_did i s)) past)
 
 -- what the `did` line before that of place i started is complete
 abbrev pub earlier_completed : Record → ℕ → List Step → ℕ → Bool
 earlier_completed r t past zero = true
-earlier_completed r t past (suc i) = elim (slice_get (did_of r t) i) [ None ↦ true | Some x ↦ is_completed r t past i x ]
+earlier_completed r t past (suc i) = elim (slice_get (did_of r t) i) [ None ↦ true | Some x ↦ is_completed r.script t past i x ]
 
 -- a client's `did` line of place i: the op of that number, then one `closed`
 abbrev pub client_did_fits : Record → ℕ → List Step → ℕ → Did → Bool
-client_did_fits r t past i x = x.op == i && nat_le i (length (ops_of r.script t)) && answer_fits r t past (op_at r.script t i) x.answer
-    && depth_fits r t past x.answer && earlier_completed r t past i
+client_did_fits r t past i x = x.op == i && nat_le i (length (ops_of r.script t)) && answer_fits r.script t past (op_at r.script t i) x.answer
+    && depth_fits r.script t past x.answer && earlier_completed r t past i
 
 -- the `done` line of client c stands among these steps of the app
 abbrev pub is_done_of : ℕ → Step → Bool

@@ -13,9 +13,12 @@ use Rattle.lw_model.specs.declared.record.ThreadRecord.{ThreadRecord}
 use Rattle.lw_model.specs.declared.record.DeviceEnd.{DeviceEnd}
 use Rattle.lw_model.specs.declared.record.RoleKind.{RoleKind}
 use Rattle.lw_model.specs.declared.record.RoleKind.TheVariants.{App, Client, Owner}
+use Rattle.lw_model.specs.declared.record.Scheduler.{Scheduler}
 use Rattle.lw_model.specs.declared.record.Scheduler.TheVariants.{Static}
-use Rattle.lw_model.specs.ScriptRules.{rule_broken}
+use Rattle.lw_model.specs.ScriptRules.{rule_broken, is_within}
 use Rattle.lw_model.specs.Printable.{has_a_line, has_bytes, has_role, may_reply, is_empty, is_printable_thread, is_printable}
+use Rattle.lw_target.specs.declared.options.Options.{Options}
+use Rattle.lw_target.specs.Options.{AreServed}
 use Rattle.lw_target.specs.Run.{IsThread, AreThreads}
 
 and_both : (p q : Bool) → p ≡ true → q ≡ true → (p && q) ≡ true
@@ -51,22 +54,24 @@ threads_printed s threads images clients (app, client, owner, e, a, c, o, none, 
     (and_both _ _ (thread_printed s 2 Owner owner o images (subst (λ k. has_role k 2 Owner ≡ true) (sym clients) refl)
     (and_both _ _ (ap is_empty nothing) (ap is_empty o.seen))) refl)))
 
-pub printed : (s : Script) (threads : List ThreadRecord) (devices : List DeviceEnd) → rule_broken s ≡ None
-    → length s.images ≡ 1 → length s.clients ≡ 1 → AreThreads threads → length devices ≡ 1
-    → is_printable s Static 1 1000000 threads devices None [] ≡ true
-printed s threads devices rules images clients all ends =
-    and_both _ _ (and_both _ _ (and_both _ _ (and_both _ _ (and_both _ _ (and_both _ _ (ap is_none rules) refl) refl)
+pub printed : (s : Script) (period : ℕ) (threads : List ThreadRecord) (devices : List DeviceEnd) → rule_broken s ≡ None
+    → is_within 1 1000000000000 period ≡ true → length s.images ≡ 1 → length s.clients ≡ 1 → AreThreads threads → length devices ≡ 1
+    → is_printable s Static 1 period threads devices None [] ≡ true
+printed s period threads devices rules fits images clients all ends =
+    and_both _ _ (and_both _ _ (and_both _ _ (and_both _ _ (and_both _ _ (and_both _ _ (ap is_none rules) refl) fits)
     (eq-eqb (length threads) (1 + length s.clients + length s.images)
     (ap length all.3 ∙ sym (ap (λ c. 1 + c + length s.images) clients ∙ ap (λ i. 1 + 1 + i) images))))
     (threads_printed s threads images clients all))
     (eq-eqb (length devices) (length s.images) (ends ∙ sym images))) refl
 
--- the same of a script that was taken apart and put together again, with no rounds
-pub printed_again : (s : Script) (clients : List ClientOf) (threads : List ThreadRecord) (devices : List DeviceEnd) (rounds : List Round)
-    → s.clients ≡ clients → rounds ≡ [] → rule_broken s ≡ None
+-- the same of a script that was taken apart and put together again, under options that are served, with no rounds
+pub printed_again : (s : Script) (options : Options) (clients : List ClientOf) (threads : List ThreadRecord) (devices : List DeviceEnd) (rounds : List Round)
+    → s.clients ≡ clients → rounds ≡ [] → rule_broken s ≡ None → AreServed options
     → length s.images ≡ 1 → length s.clients ≡ 1 → AreThreads threads → length devices ≡ 1
-    → is_printable (record { images = s.images; clients = clients; small = s.small; large = s.large }) Static 1 1000000 threads devices None rounds ≡ true
-printed_again s clients threads devices rounds e none rules images count all ends =
-    subst (λ (cs : List ClientOf). is_printable (record { images = s.images; clients = cs; small = s.small; large = s.large }) Static 1 1000000 threads devices None rounds ≡ true) e
-    (subst (λ (rs : List Round). is_printable s Static 1 1000000 threads devices None rs ≡ true) (sym none)
-    (printed s threads devices rules images count all ends))
+    → is_printable (record { images = s.images; clients = clients; small = s.small; large = s.large }) options.scheduler options.reactors options.period threads devices None rounds ≡ true
+printed_again s options clients threads devices rounds e none rules served images count all ends =
+    subst (λ (cs : List ClientOf). is_printable (record { images = s.images; clients = cs; small = s.small; large = s.large }) options.scheduler options.reactors options.period threads devices None rounds ≡ true) e
+    (subst (λ (rs : List Round). is_printable s options.scheduler options.reactors options.period threads devices None rs ≡ true) (sym none)
+    (subst (λ (how : Scheduler). is_printable s how options.reactors options.period threads devices None [] ≡ true) (sym served.scheduler)
+    (subst (λ (n : ℕ). is_printable s Static n options.period threads devices None [] ≡ true) (sym served.reactors)
+    (printed s options.period threads devices rules served.period images count all ends))))

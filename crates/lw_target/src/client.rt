@@ -31,8 +31,8 @@ pub struct Client {
     pub channels: Vec<Channel>,
     /// How many channels stand.
     pub standing: u32,
-    /// The requests to any owner that no reply was run for.
-    pub unanswered: u32,
+    /// The ops of the requests that no reply was run for, oldest first. They are at most as many as the depth, 32.
+    pub unanswered: Vec<u32>,
     pub closed: bool,
     pub done: bool,
     did: Items<Did>,
@@ -78,7 +78,7 @@ impl Client {
             next: 0,
             channels: vec![in alloc; none; devices]?,
             standing: 0,
-            unanswered: 0,
+            unanswered: Vec::new(alloc),
             closed: false,
             done: false,
             did: Items::new(alloc),
@@ -110,7 +110,7 @@ impl Client {
         ensures channels { OnOk result (vec_len self.new.channels ≡ vec_len self.old.channels) }
         ensures work { OnOk result (client_work self.new ≡ client_work self.old) }
     {
-        self.unanswered = self.unanswered.saturating_sub(1);
+        self.unanswered.retain(|&sent| sent != op);
         let image = sender.saturating_sub(self.first_owner) as usize;
         if image < self.channels.len() {
             let channel = &mut self.channels[image];
@@ -182,9 +182,9 @@ impl Client {
     fn close_at_end(&mut self, acts: &mut Acts) -> Result<bool, NoMemory>
         ensures progress { IfOk result (λ worked. Progress self.old self.new acts.old acts.new (cond worked 1 0)) }
         ensures at_end { IfOk result (λ worked. IsTrue worked → (self.old.next ≡ length self.old.of.ops)
-            × (self.old.unanswered ≡ 0)) }
+            × (vec_len self.old.unanswered ≡ 0)) }
     {
-        if self.closed || self.next < self.of.ops.len() || self.unanswered > 0 {
+        if self.closed || self.next < self.of.ops.len() || self.unanswered.len() > 0 {
             return Ok(false);
         }
         self.closed = true;
@@ -325,18 +325,16 @@ impl Client {
         ensures answered { OnOk result (Answered self.old self.new acts.old acts.new 2) }
         ensures waits { IfOk result (λ a. a ≡ None → acts.new ≡ acts.old) }
         ensures answer { IfOk result (λ a. IfSome (slice_get self.old.channels.items image) (λ c.
-            a ≡ request_answer self.old.unanswered self.old.of.depth c)) }
+            a ≡ request_answer (vec_len self.old.unanswered) self.old.of.depth c)) }
     {
         match self.admission(image as usize) {
             Admission::NoChannel => Ok(Some(Answer::NoChannel)),
             Admission::Waits => Ok(None),
             Admission::Sends => {
                 let load = load_of(alloc, &self.of.ops.as_slice()[self.next])?;
-                let what = What::Request {
-                    op: self.next as u32,
-                };
-                acts.send(self.first_owner + image, what, load)?;
-                self.count_request(image as usize);
+                let op = self.next as u32;
+                acts.send(self.first_owner + image, What::Request { op }, load)?;
+                self.count_request(image as usize, op)?;
                 Ok(Some(Answer::Sent))
             }
         }
@@ -345,28 +343,29 @@ impl Client {
     fn admission(&self, image: usize) -> Admission
         requires { image < vec_len self.now.channels }
         ensures { IfSome (slice_get self.now.channels.items image) (λ c.
-            result ≡ admission_of self.now.unanswered self.now.of.depth c) }
+            result ≡ admission_of (vec_len self.now.unanswered) self.now.of.depth c) }
     {
         if self.channels[image].references == 0 {
             Admission::NoChannel
-        } else if self.unanswered >= self.of.depth {
+        } else if self.unanswered.len() >= self.of.depth as usize {
             Admission::Waits
         } else {
             Admission::Sends
         }
     }
 
-    fn count_request(&mut self, image: usize)
+    fn count_request(&mut self, image: usize, op: u32) -> Result<(), NoMemory>
         requires { image < vec_len self.old.channels }
-        ensures of { self.new.of ≡ self.old.of }
-        ensures next { self.new.next ≡ self.old.next }
-        ensures closed { self.new.closed ≡ self.old.closed }
-        ensures done { self.new.done ≡ self.old.done }
-        ensures channels { vec_len self.new.channels ≡ vec_len self.old.channels }
+        ensures of { OnOk result (self.new.of ≡ self.old.of) }
+        ensures next { OnOk result (self.new.next ≡ self.old.next) }
+        ensures closed { OnOk result (self.new.closed ≡ self.old.closed) }
+        ensures done { OnOk result (self.new.done ≡ self.old.done) }
+        ensures channels { OnOk result (vec_len self.new.channels ≡ vec_len self.old.channels) }
     {
         let channel = &mut self.channels[image];
         channel.unanswered = channel.unanswered.saturating_add(1);
-        self.unanswered = self.unanswered.saturating_add(1);
+        self.unanswered.push(op)?;
+        Ok(())
     }
 
     // Gives back all references of each device that it holds some of, in device order.

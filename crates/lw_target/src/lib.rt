@@ -10,6 +10,7 @@ mod channel;
 mod client;
 mod device;
 mod mail;
+mod options;
 mod owner;
 mod post;
 mod posts;
@@ -18,4 +19,5 @@ mod run;
 mod tests;
 mod turns;
 
+pub use options::Options;
 pub use run::run_script;

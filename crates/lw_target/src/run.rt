@@ -4,6 +4,7 @@ ghost use Rattle.std.specs.List.{list_all};
 ghost use Rattle.lw_model.specs.Printable.{has_a_line, has_bytes};
 ghost use Rattle.lw_model.specs.ScriptRules.{rule_broken};
 ghost use Rattle.lw_model.specs.Served.{is_served};
+ghost use Rattle.lw_target.specs.Options.{AreServed};
 ghost use Rattle.lw_target.specs.Ops.{is_servable};
 ghost use Rattle.lw_target.specs.Turns.{OpsFit, IsRunning};
 ghost use Rattle.lw_target.specs.Run.{AreThreads};
@@ -12,31 +13,30 @@ use crate::acts::Acts;
 use crate::app::App;
 use crate::client::Client;
 use crate::device::Device;
+use crate::options::Options;
 use crate::owner::Owner;
 use crate::posts::{CLIENT, OWNER, Posts};
 use crate::turns::Target;
 use lw_base::{NoMemory, Tag};
 use lw_image::Image;
 use lw_model::{
-    Called, ClientOf, DeviceEnd, Did, Home, ImageOf, Items, Record, Reply, RoleKind, Scheduler,
-    Script, ThreadRecord,
+    Called, ClientOf, DeviceEnd, Did, Home, ImageOf, Items, Record, Reply, RoleKind, Script,
+    ThreadRecord,
 };
 use std::alloc::Global;
 
-/// The period of a run without rounds, in ticks.
-const PERIOD: u64 = 1_000_000;
-
 /// Runs a script of one client on one image, whose ops are gets, puts, writes and reads, and answers the record of its
-/// run.
+/// run. One reactor runs it, under the static scheduler; the period is listed, and no round is made.
 ///
 /// The call ends: each turn of the threads leaves less to be done.
-pub fn run_script(alloc: Global, script: Script) -> Result<Record, NoMemory>
+pub fn run_script(alloc: Global, script: Script, options: Options) -> Result<Record, NoMemory>
     requires accepted { rule_broken script ≡ None }
     requires served { is_served script ≡ true }
+    requires options { AreServed options }
     ensures script { IfOk result (λ r. r.script ≡ script) }
-    ensures scheduler { IfOk result (λ r. r.scheduler ≡ Scheduler.Static) }
-    ensures reactors { IfOk result (λ r. r.reactors ≡ 1) }
-    ensures period { IfOk result (λ r. r.period ≡ 1000000) }
+    ensures scheduler { IfOk result (λ r. r.scheduler ≡ options.scheduler) }
+    ensures reactors { IfOk result (λ r. r.reactors ≡ options.reactors) }
+    ensures period { IfOk result (λ r. r.period ≡ options.period) }
 {
     let small = script.small;
     let large = script.large;
@@ -53,9 +53,9 @@ pub fn run_script(alloc: Global, script: Script) -> Result<Record, NoMemory>
             small,
             large,
         },
-        scheduler: Scheduler::Static,
-        reactors: 1,
-        period: PERIOD,
+        scheduler: options.scheduler,
+        reactors: options.reactors,
+        period: options.period,
         threads: ended.threads,
         devices: ended.devices,
         span: None,

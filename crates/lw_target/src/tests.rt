@@ -1,11 +1,12 @@
 ghost use Rattle.std.specs.Prelude.{◌≡◌, None, true, IfOk};
 ghost use Rattle.lw_model.specs.ScriptRules.{rule_broken};
 ghost use Rattle.lw_model.specs.Served.{is_served};
+ghost use Rattle.lw_target.specs.Options.{AreServed};
 ghost use Rattle.lw_target.specs.Sample.{sample};
 
-use crate::run_script;
+use crate::{Options, run_script};
 use lw_base::What;
-use lw_model::{Answer, ClientOf, ImageOf, Items, Op, Record, Replied, Script, Text};
+use lw_model::{Answer, ClientOf, ImageOf, Items, Op, Record, Replied, Scheduler, Script, Text};
 use std::alloc::{AllocError, Global};
 use std::test::Fail;
 
@@ -30,7 +31,19 @@ fn run(alloc: Global, depth: u32, ops: Vec<Op>) -> Result<Record, AllocError>
         small: 4,
         large: 1,
     };
-    run_script(alloc, script)
+    run_script(alloc, script, caller_alone())
+}
+
+// One reactor, which the caller turns.
+fn caller_alone() -> Options
+    ensures { AreServed result }
+{
+    Options {
+        scheduler: Scheduler::Static,
+        reactors: 1,
+        beside: 0,
+        period: 1_000_000,
+    }
 }
 
 fn write(alloc: Global, start: u64, pattern: &[u8]) -> Result<Op, AllocError>

@@ -23,7 +23,7 @@ invariant_of-result c =
     let same : c.args.script.clients ≡ c.from_vec.result =
     c.take_last-rest.ensures ∙ ap (λ o. c.take_last-rest.result.0.items ++ o ∷ []) (sym of) ∙ sym c.in_ok-push.ensures.items ∙ sym c.from_vec.ensures in
     record {
-      printable = printed_again c.args.script c.from_vec.result c.in_ok-ended.ended.threads c.in_ok-ended.ended.devices c.new.result same c.new.ensures
-          c.requires.accepted (images_one c.args.script c.requires.served) (clients_one c.args.script c.requires.served)
+      printable = printed_again c.args.script c.args.options c.from_vec.result c.in_ok-ended.ended.threads c.in_ok-ended.ended.devices c.new.result same c.new.ensures
+          c.requires.accepted c.requires.options (images_one c.args.script c.requires.served) (clients_one c.args.script c.requires.served)
           c.in_ok-ended.ensures.threads c.in_ok-ended.ensures.devices;
     }

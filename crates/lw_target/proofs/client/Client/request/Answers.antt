@@ -8,8 +8,8 @@ use Rattle.lw_target.specs.Ops.{IsOfOps, asks_bytes}
 use Rattle.lw_target.proofs.Mails.{asked_push}
 use Rattle.lw_target.proofs.client.Client.request.Goals as goal
 
-pub returns-in_ok-send-in-Sends-clause-answered : goal.returns-in_ok-send-in-Sends-clause-answered
-returns-in_ok-send-in-Sends-clause-answered c =
+pub returns-in_ok-count_request-in-Sends-clause-answered : goal.returns-in_ok-count_request-in-Sends-clause-answered
+returns-in_ok-count_request-in-Sends-clause-answered c =
     let ops : List Op = c.args.self.now.of.ops in
     let op : Op = c.index-as_slice-self.result in
     let at = c.args.self.now.next in
@@ -17,11 +17,11 @@ returns-in_ok-send-in-Sends-clause-answered c =
     let same : op ≡ get_or ops at op = c.index-as_slice-self.is ∙ ap (λ l. get_or l at op) c.as_slice.ensures in
     let sent = c.in_ok-send-in-Sends.ensures in
     record {
-      of = c.count_request.ensures.of;
-      next = c.count_request.ensures.next;
-      closed = c.count_request.ensures.closed;
-      done = c.count_request.ensures.done;
-      channels = c.count_request.ensures.channels;
+      of = c.in_ok-count_request-in-Sends.ensures.of;
+      next = c.in_ok-count_request-in-Sends.ensures.next;
+      closed = c.in_ok-count_request-in-Sends.ensures.closed;
+      done = c.in_ok-count_request-in-Sends.ensures.done;
+      channels = c.in_ok-count_request-in-Sends.ensures.channels;
       ran = ap (λ a. a.ran) sent;
       sends = λ all. All-same (IsOfOps ops) _ _ (ap (λ a. a.sends) sent)
           (All-push (IsOfOps ops) _ _ all
