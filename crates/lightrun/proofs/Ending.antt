@@ -1,80 +1,19 @@
 -- What each exit status says, from how a run ends.
-use Rattle.std.proofs.Common.{◌≡◌, ◌≢◌, ◌≤◌, ◌↔◌, ◌⊎◌, inl, inr, ℕ, true, false, List, Option, Some, None, IsSome, IfSome, arith, refl, ap, sym, ◌∙◌, subst, lit≤}
+use Rattle.std.proofs.Common.{◌≡◌, ◌≢◌, ◌≤◌, ◌↔◌, ◌⊎◌, inl, inr, ℕ, List, Option, Some, None, Result, Ok, Err, IfOk, arith, refl, ap, sym, ◌∙◌, subst, lit≤}
+use Rattle.std.specs.declared.alloc.AllocError.{AllocError}
 use Rattle.lw_base.specs.Outside.{Rose}
 use Rattle.lw_model.specs.declared.record.Record.{Record}
 use Rattle.lw_model.specs.declared.refusal.ScriptRefusal.{ScriptRefusal}
 use Rattle.lw_model.specs.Served.{run_refusal}
+use Rattle.lw_target.specs.declared.options.Options.{Options}
 use Rattle.lightrun.specs.declared.fault.Fault.{Fault}
 use Rattle.lightrun.specs.declared.fault.Fault.TheVariants.{Usage, Script, ReadFault, WriteFault, NoMemory}
 use Rattle.lightrun.specs.declared.words.Command.{Command}
 use Rattle.lightrun.specs.declared.words.Command.TheVariants.{Run}
 use Rattle.lightrun.specs.Statuses.{end_status}
-use Rattle.lightrun.specs.Runs.{Outside, script_bytes, IsRunOf, Tells, OfScript}
-use Rattle.lightrun.specs.Program.{Ends, IsDone, IsCutShort, IsRefusal, IsReadFault}
-
--- the words are none of the table
-pub usage : (o : Outside) (unread : Type 0) (command : Option Command) (fault : Option Fault) (told : Option Record) → Ends o unread command fault told → (end_status fault ≡ 1) ↔ (command ≡ None)
-usage o unread None fault told e = (λ h. refl, λ h. ap end_status e.0)
-usage o unread (Some Run) None told e = (λ h. let w : 0 ≡ 1 = h in absurd (omega (arith, w)), λ h. let w : Some Run ≡ None = h in cc)
-usage o unread (Some Run) (Some Usage) told e = absurd e
-usage o unread (Some Run) (Some (Script r)) told e = (λ h. let w : 2 ≡ 1 = h in absurd (omega (arith, w)), λ h. let w : Some Run ≡ None = h in cc)
-usage o unread (Some Run) (Some ReadFault) told e = (λ h. let w : 3 ≡ 1 = h in absurd (omega (arith, w)), λ h. let w : Some Run ≡ None = h in cc)
-usage o unread (Some Run) (Some WriteFault) told e = (λ h. let w : 4 ≡ 1 = h in absurd (omega (arith, w)), λ h. let w : Some Run ≡ None = h in cc)
-usage o unread (Some Run) (Some NoMemory) told e = (λ h. let w : 5 ≡ 1 = h in absurd (omega (arith, w)), λ h. let w : Some Run ≡ None = h in cc)
-
-pub unread_then : (o : Outside) (unread : Type 0) (command : Option Command) (fault : Option Fault) (told : Option Record) → Ends o unread command fault told → end_status fault ≡ 1 → unread
-unread_then o unread None fault told e h = e.2
-unread_then o unread (Some Run) None told e h = let w : 0 ≡ 1 = h in absurd (omega (arith, w))
-unread_then o unread (Some Run) (Some Usage) told e h = absurd e
-unread_then o unread (Some Run) (Some (Script r)) told e h = let w : 2 ≡ 1 = h in absurd (omega (arith, w))
-unread_then o unread (Some Run) (Some ReadFault) told e h = let w : 3 ≡ 1 = h in absurd (omega (arith, w))
-unread_then o unread (Some Run) (Some WriteFault) told e h = let w : 4 ≡ 1 = h in absurd (omega (arith, w))
-unread_then o unread (Some Run) (Some NoMemory) told e h = let w : 5 ≡ 1 = h in absurd (omega (arith, w))
-
-pub done : (o : Outside) (unread : Type 0) (command : Option Command) (fault : Option Fault) (told : Option Record) → Ends o unread command fault told → end_status fault ≡ 0 → IsDone o.left o.left_after o.held o.held_after fault told
-done o unread None fault told e h = let w : 1 ≡ 0 = sym (ap end_status e.0) ∙ h in absurd (omega (arith, w))
-done o unread (Some Run) None told e h = record { no_fault = refl; the = e.0; told_is = e.1; tells = e.2; taken = e.3 }
-done o unread (Some Run) (Some Usage) told e h = absurd e
-done o unread (Some Run) (Some (Script r)) told e h = let w : 2 ≡ 0 = h in absurd (omega (arith, w))
-done o unread (Some Run) (Some ReadFault) told e h = let w : 3 ≡ 0 = h in absurd (omega (arith, w))
-done o unread (Some Run) (Some WriteFault) told e h = let w : 4 ≡ 0 = h in absurd (omega (arith, w))
-done o unread (Some Run) (Some NoMemory) told e h = let w : 5 ≡ 0 = h in absurd (omega (arith, w))
-
-pub refused : (o : Outside) (unread : Type 0) (command : Option Command) (fault : Option Fault) (told : Option Record) → Ends o unread command fault told → end_status fault ≡ 2 → IsRefusal o.left fault
-refused o unread None fault told e h = let w : 1 ≡ 2 = sym (ap end_status e.0) ∙ h in absurd (omega (arith, w))
-refused o unread (Some Run) None told e h = let w : 0 ≡ 2 = h in absurd (omega (arith, w))
-refused o unread (Some Run) (Some Usage) told e h = absurd e
-refused o unread (Some Run) (Some (Script r)) told e h = record { the = r; fault_is = refl; no_lack = e.1; refused = e.2 }
-refused o unread (Some Run) (Some ReadFault) told e h = let w : 3 ≡ 2 = h in absurd (omega (arith, w))
-refused o unread (Some Run) (Some WriteFault) told e h = let w : 4 ≡ 2 = h in absurd (omega (arith, w))
-refused o unread (Some Run) (Some NoMemory) told e h = let w : 5 ≡ 2 = h in absurd (omega (arith, w))
-
-pub read_fault : (o : Outside) (unread : Type 0) (command : Option Command) (fault : Option Fault) (told : Option Record) → Ends o unread command fault told → end_status fault ≡ 3 → IsReadFault o.read_faults o.read_faults_after fault
-read_fault o unread None fault told e h = let w : 1 ≡ 3 = sym (ap end_status e.0) ∙ h in absurd (omega (arith, w))
-read_fault o unread (Some Run) None told e h = let w : 0 ≡ 3 = h in absurd (omega (arith, w))
-read_fault o unread (Some Run) (Some Usage) told e h = absurd e
-read_fault o unread (Some Run) (Some (Script r)) told e h = let w : 2 ≡ 3 = h in absurd (omega (arith, w))
-read_fault o unread (Some Run) (Some ReadFault) told e h = record { fault_is = refl; rose = e.1 }
-read_fault o unread (Some Run) (Some WriteFault) told e h = let w : 4 ≡ 3 = h in absurd (omega (arith, w))
-read_fault o unread (Some Run) (Some NoMemory) told e h = let w : 5 ≡ 3 = h in absurd (omega (arith, w))
-
-pub write_fault : (o : Outside) (unread : Type 0) (command : Option Command) (fault : Option Fault) (told : Option Record) → Ends o unread command fault told → end_status fault ≡ 4 → IsCutShort o.left o.left_after o.held o.held_after o.write_faults o.write_faults_after fault told
-write_fault o unread None fault told e h = let w : 1 ≡ 4 = sym (ap end_status e.0) ∙ h in absurd (omega (arith, w))
-write_fault o unread (Some Run) None told e h = let w : 0 ≡ 4 = h in absurd (omega (arith, w))
-write_fault o unread (Some Run) (Some Usage) told e h = absurd e
-write_fault o unread (Some Run) (Some (Script r)) told e h = let w : 2 ≡ 4 = h in absurd (omega (arith, w))
-write_fault o unread (Some Run) (Some ReadFault) told e h = let w : 3 ≡ 4 = h in absurd (omega (arith, w))
-write_fault o unread (Some Run) (Some WriteFault) told e h = record { fault_is = refl; rose = e.4; the = e.0; told_is = e.1; tells = e.2; taken = e.3 }
-write_fault o unread (Some Run) (Some NoMemory) told e h = let w : 5 ≡ 4 = h in absurd (omega (arith, w))
-
-pub unwritten : (o : Outside) (unread : Type 0) (command : Option Command) (fault : Option Fault) (told : Option Record) → Ends o unread command fault told → end_status fault ≢ 0 → end_status fault ≢ 4 → (told ≡ None) × o.untouched
-unwritten o unread None fault told e h k = (e.1, e.3)
-unwritten o unread (Some Run) None told e h k = absurd (h refl)
-unwritten o unread (Some Run) (Some Usage) told e h k = absurd e
-unwritten o unread (Some Run) (Some (Script r)) told e h k = (e.0, e.3)
-unwritten o unread (Some Run) (Some ReadFault) told e h k = (e.0, e.2)
-unwritten o unread (Some Run) (Some WriteFault) told e h k = absurd (k refl)
-unwritten o unread (Some Run) (Some NoMemory) told e h k = (e.0, e.1)
+use Rattle.lightrun.specs.Works.{Outside, WorkOf, EndsWork, IsTold, OfBytes, bytes_read}
+use Rattle.lightrun.specs.Runs.{IsRefused, run_work}
+use Rattle.lightrun.specs.Program.{Ends, OfRun, IsDone, IsCutShort, IsRefusal, IsReadFault}
 
 pub statuses : (fault : Option Fault) → end_status fault ≤ 5
 statuses None = lit≤ tt
@@ -84,37 +23,134 @@ statuses (Some ReadFault) = lit≤ tt
 statuses (Some WriteFault) = lit≤ tt
 statuses (Some NoMemory) = lit≤ tt
 
--- a record told is of bytes that have no refusal
-accepted : (left : List ℕ) (before after : Option (List ℕ)) (r : Record) → before ≡ Some left → Tells before after r → run_refusal (script_bytes left) ≡ None
-accepted left before after r at told = (subst (λ o. OfScript o (λ bytes. IsRunOf bytes r)) at told.run).accepted
+-- ---- a work that reads and writes
 
-pub not_refused : (o : Outside) (unread : Type 0) (command : Option Command) (fault : Option Fault) (told : Option Record) → Ends o unread command fault told → (left : List ℕ) → o.left ≡ Some left → (end_status fault ≡ 0) ⊎ (end_status fault ≡ 4) → run_refusal (script_bytes left) ≡ None
-not_refused o unread None fault told e left at (inl h) = let w : 1 ≡ 0 = sym (ap end_status e.0) ∙ h in absurd (omega (arith, w))
-not_refused o unread None fault told e left at (inr h) = let w : 1 ≡ 4 = sym (ap end_status e.0) ∙ h in absurd (omega (arith, w))
-not_refused o unread (Some Run) None told e left at (inl h) = accepted left o.left o.left_after e.0 at e.2
-not_refused o unread (Some Run) None told e left at (inr h) = let w : 0 ≡ 4 = h in absurd (omega (arith, w))
-not_refused o unread (Some Run) (Some Usage) told e left at (inl h) = absurd e
-not_refused o unread (Some Run) (Some Usage) told e left at (inr h) = absurd e
-not_refused o unread (Some Run) (Some (Script r)) told e left at (inl h) = let w : 2 ≡ 0 = h in absurd (omega (arith, w))
-not_refused o unread (Some Run) (Some (Script r)) told e left at (inr h) = let w : 2 ≡ 4 = h in absurd (omega (arith, w))
-not_refused o unread (Some Run) (Some ReadFault) told e left at (inl h) = let w : 3 ≡ 0 = h in absurd (omega (arith, w))
-not_refused o unread (Some Run) (Some ReadFault) told e left at (inr h) = let w : 3 ≡ 4 = h in absurd (omega (arith, w))
-not_refused o unread (Some Run) (Some WriteFault) told e left at (inl h) = let w : 4 ≡ 0 = h in absurd (omega (arith, w))
-not_refused o unread (Some Run) (Some WriteFault) told e left at (inr h) = accepted left o.left o.left_after e.0 at e.2
-not_refused o unread (Some Run) (Some NoMemory) told e left at (inl h) = let w : 5 ≡ 0 = h in absurd (omega (arith, w))
-not_refused o unread (Some Run) (Some NoMemory) told e left at (inr h) = let w : 5 ≡ 4 = h in absurd (omega (arith, w))
+module _ {T : Type 0} (w : WorkOf T) (o : Outside) where
+  pub done : (fault : Option Fault) (told : Option T) → EndsWork w o fault told → end_status fault ≡ 0 → IsDone w o.left o.left_after o.held o.held_after fault told
+  done None told e h = record { no_fault = refl; the = e.0; told_is = e.1; tells = e.2; taken = e.3 }
+  done (Some Usage) told e h = absurd e
+  done (Some (Script r)) told e h = let x : 2 ≡ 0 = h in absurd (omega (arith, x))
+  done (Some ReadFault) told e h = let x : 3 ≡ 0 = h in absurd (omega (arith, x))
+  done (Some WriteFault) told e h = let x : 4 ≡ 0 = h in absurd (omega (arith, x))
+  done (Some NoMemory) told e h = let x : 5 ≡ 0 = h in absurd (omega (arith, x))
 
--- bytes with a refusal and without one
-contrary : (left : List ℕ) (before : Option (List ℕ)) (r : ScriptRefusal) → before ≡ Some left → OfScript before (λ bytes. run_refusal bytes ≡ Some r) → run_refusal (script_bytes left) ≡ None → ⊥
-contrary left before r at has none =
-    let stands : run_refusal (script_bytes left) ≡ Some r = subst (λ o. OfScript o (λ bytes. run_refusal bytes ≡ Some r)) at has in
-    let wrong : Some r ≡ None = sym stands ∙ none in cc
+  pub read_fault : (fault : Option Fault) (told : Option T) → EndsWork w o fault told → end_status fault ≡ 3 → IsReadFault o.read_faults o.read_faults_after fault
+  read_fault None told e h = let x : 0 ≡ 3 = h in absurd (omega (arith, x))
+  read_fault (Some Usage) told e h = absurd e
+  read_fault (Some (Script r)) told e h = let x : 2 ≡ 3 = h in absurd (omega (arith, x))
+  read_fault (Some ReadFault) told e h = record { fault_is = refl; rose = e.1 }
+  read_fault (Some WriteFault) told e h = let x : 4 ≡ 3 = h in absurd (omega (arith, x))
+  read_fault (Some NoMemory) told e h = let x : 5 ≡ 3 = h in absurd (omega (arith, x))
 
-pub complete : (o : Outside) (unread : Type 0) (command : Option Command) (fault : Option Fault) (told : Option Record) → Ends o unread command fault told → (left : List ℕ) → IsSome command → o.left ≡ Some left → run_refusal (script_bytes left) ≡ None → ¬ Rose o.read_faults o.read_faults_after → ¬ Rose o.write_faults o.write_faults_after → (end_status fault ≡ 0) ⊎ (end_status fault ≡ 5)
-complete o unread None fault told e left there at free still calm = let w : false ≡ true = there in cc
-complete o unread (Some Run) None told e left there at free still calm = inl refl
-complete o unread (Some Run) (Some Usage) told e left there at free still calm = absurd e
-complete o unread (Some Run) (Some (Script r)) told e left there at free still calm = absurd (contrary left o.left r at e.2 free)
-complete o unread (Some Run) (Some ReadFault) told e left there at free still calm = absurd (still e.1)
-complete o unread (Some Run) (Some WriteFault) told e left there at free still calm = absurd (calm e.4)
-complete o unread (Some Run) (Some NoMemory) told e left there at free still calm = inr refl
+  pub cut_short : (fault : Option Fault) (told : Option T) → EndsWork w o fault told → end_status fault ≡ 4 → IsCutShort w o.left o.left_after o.held o.held_after o.write_faults o.write_faults_after fault told
+  cut_short None told e h = let x : 0 ≡ 4 = h in absurd (omega (arith, x))
+  cut_short (Some Usage) told e h = absurd e
+  cut_short (Some (Script r)) told e h = let x : 2 ≡ 4 = h in absurd (omega (arith, x))
+  cut_short (Some ReadFault) told e h = let x : 3 ≡ 4 = h in absurd (omega (arith, x))
+  cut_short (Some WriteFault) told e h = record { fault_is = refl; rose = e.4; the = e.0; told_is = e.1; tells = e.2; taken = e.3 }
+  cut_short (Some NoMemory) told e h = let x : 5 ≡ 4 = h in absurd (omega (arith, x))
+
+  pub unwritten : (fault : Option Fault) (told : Option T) → EndsWork w o fault told → end_status fault ≢ 0 → end_status fault ≢ 4 → (told ≡ None) × o.untouched
+  unwritten None told e h k = absurd (h refl)
+  unwritten (Some Usage) told e h k = absurd e
+  unwritten (Some (Script r)) told e h k = (e.0, e.2)
+  unwritten (Some ReadFault) told e h k = (e.0, e.2)
+  unwritten (Some WriteFault) told e h k = absurd (k refl)
+  unwritten (Some NoMemory) told e h k = (e.0, e.1)
+
+  -- what is told is of the bytes read
+  pub told_of : (fault : Option Fault) (told : Option T) → EndsWork w o fault told → (end_status fault ≡ 0) ⊎ (end_status fault ≡ 4) → (t : T) × IsTold w o.left o.left_after t
+  told_of None told e (inl h) = (e.0, e.2)
+  told_of None told e (inr h) = let x : 0 ≡ 4 = h in absurd (omega (arith, x))
+  told_of (Some Usage) told e (inl h) = absurd e
+  told_of (Some Usage) told e (inr h) = absurd e
+  told_of (Some (Script r)) told e (inl h) = let x : 2 ≡ 0 = h in absurd (omega (arith, x))
+  told_of (Some (Script r)) told e (inr h) = let x : 2 ≡ 4 = h in absurd (omega (arith, x))
+  told_of (Some ReadFault) told e (inl h) = let x : 3 ≡ 0 = h in absurd (omega (arith, x))
+  told_of (Some ReadFault) told e (inr h) = let x : 3 ≡ 4 = h in absurd (omega (arith, x))
+  told_of (Some WriteFault) told e (inl h) = let x : 4 ≡ 0 = h in absurd (omega (arith, x))
+  told_of (Some WriteFault) told e (inr h) = (e.0, e.2)
+  told_of (Some NoMemory) told e (inl h) = let x : 5 ≡ 0 = h in absurd (omega (arith, x))
+  told_of (Some NoMemory) told e (inr h) = let x : 5 ≡ 4 = h in absurd (omega (arith, x))
+
+  -- no status but 1 comes of a work that isn't there
+  pub not_usage : (fault : Option Fault) (told : Option T) → EndsWork w o fault told → end_status fault ≢ 1
+  not_usage None told e h = let x : 0 ≡ 1 = h in absurd (omega (arith, x))
+  not_usage (Some Usage) told e h = absurd e
+  not_usage (Some (Script r)) told e h = let x : 2 ≡ 1 = h in absurd (omega (arith, x))
+  not_usage (Some ReadFault) told e h = let x : 3 ≡ 1 = h in absurd (omega (arith, x))
+  not_usage (Some WriteFault) told e h = let x : 4 ≡ 1 = h in absurd (omega (arith, x))
+  not_usage (Some NoMemory) told e h = let x : 5 ≡ 1 = h in absurd (omega (arith, x))
+
+-- ---- the command `run`
+
+module _ (options : Options) (o : Outside) where
+  pub refused : (fault : Option Fault) (told : Option Record) → EndsWork (run_work options) o fault told → end_status fault ≡ 2 → IsRefusal o.left fault
+  refused None told e h = let x : 0 ≡ 2 = h in absurd (omega (arith, x))
+  refused (Some Usage) told e h = absurd e
+  refused (Some (Script r)) told e h = record { the = r; fault_is = refl; refused = e.1 }
+  refused (Some ReadFault) told e h = let x : 3 ≡ 2 = h in absurd (omega (arith, x))
+  refused (Some WriteFault) told e h = let x : 4 ≡ 2 = h in absurd (omega (arith, x))
+  refused (Some NoMemory) told e h = let x : 5 ≡ 2 = h in absurd (omega (arith, x))
+
+  pub not_refused : (fault : Option Fault) (told : Option Record) → EndsWork (run_work options) o fault told → (left : List ℕ) → o.left ≡ Some left
+      → (end_status fault ≡ 0) ⊎ (end_status fault ≡ 4) → run_refusal (bytes_read 16777216 left) ≡ None
+  not_refused fault told e left at which =
+      let found = told_of (run_work options) o fault told e which in
+      (subst (λ (l : Option (List ℕ)). OfBytes 16777216 l (λ bytes. (run_work options).tells bytes found.0)) at found.1.tells).0.accepted
+
+  -- bytes with a refusal and without one
+  contrary : (left : List ℕ) (r : ScriptRefusal) → o.left ≡ Some left → OfBytes 16777216 o.left (λ bytes. IsRefused bytes r) → run_refusal (bytes_read 16777216 left) ≡ None → ⊥
+  contrary left r at has none =
+      let stands = subst (λ (l : Option (List ℕ)). OfBytes 16777216 l (λ bytes. IsRefused bytes r)) at has in
+      let wrong : Some r ≡ None = sym stands.1 ∙ none in cc
+
+  pub complete : (fault : Option Fault) (told : Option Record) → EndsWork (run_work options) o fault told → (left : List ℕ) → o.left ≡ Some left
+      → run_refusal (bytes_read 16777216 left) ≡ None → ¬ Rose o.read_faults o.read_faults_after → ¬ Rose o.write_faults o.write_faults_after
+      → (end_status fault ≡ 0) ⊎ (end_status fault ≡ 5)
+  complete None told e left at free still calm = inl refl
+  complete (Some Usage) told e left at free still calm = absurd e
+  complete (Some (Script r)) told e left at free still calm = absurd (contrary left r at e.1 free)
+  complete (Some ReadFault) told e left at free still calm = absurd (still e.1)
+  complete (Some WriteFault) told e left at free still calm = absurd (calm e.4)
+  complete (Some NoMemory) told e left at free still calm = inr refl
+
+-- ---- all words
+
+module _ (o : Outside) (unread : Type 0) where
+  -- a fact of the words `run` holds where the run gives it, and so does want of memory
+  pub of_run : (asked : Result (Option Command) AllocError) (command : Option Command) (fault : Option Fault) (told : Option Record) (P : Options → Type 0)
+      → IfOk asked (λ c. c ≡ command) → Ends o unread asked fault told
+      → ((options : Options) → EndsWork (run_work options) o fault told → P options)
+      → ((options : Options) → fault ≡ Some NoMemory → P options) → OfRun command P
+  of_run (Ok None) command fault told P is e by lack = subst (λ c. OfRun c P) is tt
+  of_run (Ok (Some (Run options))) command fault told P is e by lack = subst (λ c. OfRun c P) is (by options e)
+  of_run (Err x) None fault told P is e by lack = tt
+  of_run (Err x) (Some (Run options)) fault told P is e by lack = lack options e.0
+
+  pub usage : (asked : Result (Option Command) AllocError) (command : Option Command) (fault : Option Fault) (told : Option Record)
+      → IfOk asked (λ c. c ≡ command) → Ends o unread asked fault told → end_status fault ≢ 5 → (end_status fault ≡ 1) ↔ (command ≡ None)
+  usage (Ok None) command fault told is e enough = (λ h. sym is, λ h. ap end_status e.0)
+  usage (Ok (Some (Run options))) command fault told is e enough = (
+    λ h. absurd (not_usage (run_work options) o fault told e h),
+    λ h. let w : Some (Run options) ≡ None = is ∙ h in cc,
+  )
+  usage (Err x) command fault told is e enough = absurd (enough (ap end_status e.0))
+
+  pub unread_then : (asked : Result (Option Command) AllocError) (fault : Option Fault) (told : Option Record)
+      → Ends o unread asked fault told → end_status fault ≡ 1 → unread
+  unread_then (Ok None) fault told e h = e.2
+  unread_then (Ok (Some (Run options))) fault told e h = absurd (not_usage (run_work options) o fault told e h)
+  unread_then (Err x) fault told e h = e.2
+
+  pub fault_then : (asked : Result (Option Command) AllocError) (fault : Option Fault) (told : Option Record)
+      → Ends o unread asked fault told → end_status fault ≡ 3 → IsReadFault o.read_faults o.read_faults_after fault
+  fault_then (Ok None) fault told e h = let x : 1 ≡ 3 = sym (ap end_status e.0) ∙ h in absurd (omega (arith, x))
+  fault_then (Ok (Some (Run options))) fault told e h = read_fault (run_work options) o fault told e h
+  fault_then (Err y) fault told e h = let x : 5 ≡ 3 = sym (ap end_status e.0) ∙ h in absurd (omega (arith, x))
+
+  pub nothing_written : (asked : Result (Option Command) AllocError) (fault : Option Fault) (told : Option Record)
+      → Ends o unread asked fault told → end_status fault ≢ 0 → end_status fault ≢ 4 → (told ≡ None) × o.untouched
+  nothing_written (Ok None) fault told e h k = (e.1, e.3)
+  nothing_written (Ok (Some (Run options))) fault told e h k = unwritten (run_work options) o fault told e h k
+  nothing_written (Err y) fault told e h k = (e.1, e.3)

@@ -2,3 +2,9 @@ mod Ending
 mod Reported
 mod Streams
 mod Told
+mod WordNumbers
+mod WordRows
+mod WordRules
+mod WordShapes
+mod WordWalk
+mod WordsRead

@@ -1,5 +1,5 @@
 -- Pieces of a source and of a sink, one behind the other.
-use Rattle.std.proofs.Common.{◌≡◌, ◌+◌, ◌-◌, ◌<◌, ◌≤◌, ◌++◌, ◌⊎◌, inl, inr, ℕ, List, [], length, take, drop, Option, Some, None, IfSome, arith, refl, ap, subst, sym, ◌∙◌, append_assoc, append-nil, take-add}
+use Rattle.std.proofs.Common.{◌≡◌, ◌+◌, ◌-◌, ◌≤◌, ◌++◌, inl, inr, ℕ, List, [], length, take, drop, Option, Some, None, IfSome, arith, refl, ap, subst, sym, ◌∙◌, append_assoc, append-nil, take-add}
 use Rattle.std.proofs.lemmas.List.{take_all, drop_all, length-drop}
 use Rattle.std.proofs.Math.Seq.{take-append_seam, drop-append_seam, take-length}
 use Rattle.lw_base.specs.Outside.{Rose, HasGiven, HasTaken}

@@ -1,47 +1,42 @@
 -- What was read, as what the source had left tells it.
-use Rattle.std.proofs.Common.{◌≡◌, ◌≤◌, ◌+◌, ℕ, List, [], length, take, drop, Option, Some, None, Result, Ok, Err, IfOk, IfErr, IfSome, arith, refl, ap, sym, ◌∙◌, subst}
+use Rattle.std.proofs.Common.{◌≤◌, ◌+◌, ℕ, List, length, take, Option, Some, None, Result, Ok, Err, IfOk, IfErr, arith, ap, ◌∙◌, subst}
 use Rattle.std.proofs.lemmas.List.{drop_all, length-take}
-use Rattle.lw_model.specs.declared.record.Record.{Record}
-use Rattle.lw_model.specs.Served.{run_refusal}
 use Rattle.lightrun.specs.declared.fault.Fault.{Fault}
 use Rattle.lightrun.specs.declared.fault.Fault.TheVariants.{Usage, Script, ReadFault, WriteFault, NoMemory}
 use Rattle.lightrun.specs.Bytes.{GivesUpTo}
-use Rattle.lightrun.specs.Runs.{script_bytes, IsRunOf, HasDefaults, Tells, Explains, ExplainsRead, IsReadToEnd, OfScript}
-use Rattle.lw_model.proofs.Accepted.{within_limit}
+use Rattle.lightrun.specs.Works.{WorkOf, Answers, Explains, ExplainsRead, IsTold, IsReadToEnd, OfBytes}
 
--- a fact of the bytes read is one of the script's bytes
-pub of_script : (left after : Option (List ℕ)) (bytes : List ℕ) (P : List ℕ → Type 0) → GivesUpTo 16777217 left bytes after → P bytes → OfScript left P
-of_script None after bytes P given p = tt
-of_script (Some left) after bytes P given p = subst P given.0 p
+-- a fact of the bytes read is one of the bytes that the source had
+pub of_bytes : (most : ℕ) (left after : Option (List ℕ)) (bytes : List ℕ) (P : List ℕ → Type 0) → GivesUpTo (most + 1) left bytes after → P bytes → OfBytes most left P
+of_bytes most None after bytes P given p = tt
+of_bytes most (Some left) after bytes P given p = subst P given.0 p
 
 -- bytes within the limit are all that there were
-to_end : (left after : Option (List ℕ)) (bytes : List ℕ) → GivesUpTo 16777217 left bytes after → length bytes ≤ 16777216 → IsReadToEnd left after
-to_end None after bytes given few = tt
-to_end (Some left) after bytes given few =
-    let short : length (take 16777217 left) ≤ 16777216 = subst (λ b. length b ≤ 16777216) given.0 few in
-    let all : length left ≤ 16777217 = omega (arith, length-take 16777217 left, short) in
-    given.1 ∙ ap (λ r. Some r) (drop_all 16777217 left all)
+pub to_end : (most : ℕ) (left after : Option (List ℕ)) (bytes : List ℕ) → GivesUpTo (most + 1) left bytes after → length bytes ≤ most → IsReadToEnd left after
+to_end most None after bytes given few = tt
+to_end most (Some left) after bytes given few =
+    let short : length (take (most + 1) left) ≤ most = subst (λ b. length b ≤ most) given.0 few in
+    let all : length left ≤ most + 1 = omega (arith, length-take (most + 1) left, short) in
+    given.1 ∙ ap (λ r. Some r) (drop_all (most + 1) left all)
 
-tells_one : (left after : Option (List ℕ)) (bytes : List ℕ) (r : Record) → GivesUpTo 16777217 left bytes after → IsRunOf bytes r × HasDefaults r → Tells left after r
-tells_one left after bytes r given run = record {
-  run = of_script left after bytes (λ b. IsRunOf b r) given run.0;
-  read = to_end left after bytes given (within_limit bytes run.0.accepted);
-  defaults = run.1;
-}
+module _ {T : Type 0} (w : WorkOf T) (left after : Option (List ℕ)) (bytes : List ℕ) (given : GivesUpTo (w.most + 1) left bytes after) where
+  tells_one : (t : T) → Answers w bytes t → IsTold w left after t
+  tells_one t answered = record {
+    tells = of_bytes w.most left after bytes (λ b. w.tells b t) given answered.0;
+    read = to_end w.most left after bytes given answered.1;
+  }
 
-pub tells : (left after : Option (List ℕ)) (bytes : List ℕ) (result : Result Record Fault) → GivesUpTo 16777217 left bytes after
-    → IfOk result (λ r. IsRunOf bytes r × HasDefaults r) → IfOk result (λ r. Tells left after r)
-tells left after bytes (Ok r) given run = tells_one left after bytes r given run
-tells left after bytes (Err f) given run = tt
+  pub tells : (result : Result T Fault) → IfOk result (Answers w bytes) → IfOk result (IsTold w left after)
+  tells (Ok t) answered = tells_one t answered
+  tells (Err f) answered = tt
 
-explains_one : (left after : Option (List ℕ)) (before now : ℕ) (bytes : List ℕ) (f : Fault) → GivesUpTo 16777217 left bytes after → Explains bytes f → ExplainsRead left before now f
-explains_one left after before now bytes Usage given e = e
-explains_one left after before now bytes (Script r) given e = (e.0, of_script left after bytes (λ b. run_refusal b ≡ Some r) given e.1)
-explains_one left after before now bytes ReadFault given e = absurd e
-explains_one left after before now bytes WriteFault given e = e
-explains_one left after before now bytes NoMemory given e = tt
+  explains_one : (before now : ℕ) (f : Fault) → Explains w bytes f → ExplainsRead w left before now f
+  explains_one before now Usage e = e
+  explains_one before now (Script r) e = of_bytes w.most left after bytes (λ b. w.refuses b (Script r)) given e
+  explains_one before now ReadFault e = absurd e
+  explains_one before now WriteFault e = e
+  explains_one before now NoMemory e = tt
 
-pub explains : (left after : Option (List ℕ)) (before now : ℕ) (bytes : List ℕ) (result : Result Record Fault) → GivesUpTo 16777217 left bytes after
-    → IfErr result (λ f. Explains bytes f) → IfErr result (λ f. ExplainsRead left before now f)
-explains left after before now bytes (Ok r) given e = tt
-explains left after before now bytes (Err f) given e = explains_one left after before now bytes f given e
+  pub explains : (before now : ℕ) (result : Result T Fault) → IfErr result (Explains w bytes) → IfErr result (ExplainsRead w left before now)
+  explains before now (Ok t) e = tt
+  explains before now (Err f) e = explains_one before now f e

@@ -1,46 +1,51 @@
 -- How a run of the program ends, by the command that its words are.
-use Rattle.std.specs.Prelude.{◌≡◌, ◌≢◌, ℕ, List, Option, Some, None}
+use Rattle.std.specs.Prelude.{◌≡◌, ℕ, List, Option, Some, None, Result, Ok, Err}
+use Rattle.std.specs.declared.alloc.AllocError.{AllocError}
 use Rattle.lw_base.specs.Outside.{Rose, HasTaken}
 use Rattle.lw_model.specs.declared.record.Record.{Record}
 use Rattle.lw_model.specs.declared.refusal.ScriptRefusal.{ScriptRefusal}
-use Rattle.lw_model.specs.declared.refusal.ScriptRefusal.TheVariants as refusal
-use Rattle.lw_model.specs.ReportText.{text_of}
-use Rattle.lw_model.specs.Served.{run_refusal}
+use Rattle.lw_target.specs.declared.options.Options.{Options}
 use Rattle.lightrun.specs.declared.fault.Fault.{Fault}
-use Rattle.lightrun.specs.declared.fault.Fault.TheVariants.{Usage, Script, ReadFault, WriteFault}
+use Rattle.lightrun.specs.declared.fault.Fault.TheVariants.{Usage, Script, ReadFault, WriteFault, NoMemory}
 use Rattle.lightrun.specs.declared.words.Command.{Command}
 use Rattle.lightrun.specs.declared.words.Command.TheVariants.{Run}
 use Rattle.lightrun.specs.Bytes.{HasTakenPart}
-use Rattle.lightrun.specs.Runs.{Outside, OfScript, Tells, EndsRun}
+use Rattle.lightrun.specs.Runs.{IsRefused, run_work}
+use Rattle.lightrun.specs.Works.{Outside, WorkOf, IsTold, OfBytes, EndsWork}
 
--- with no command nothing is read and nothing is written
-abbrev pub Ends : Outside → Type 0 → Option Command → Option Fault → Option Record → Type 0
-Ends o unread None fault told = (fault ≡ Some Usage) × (told ≡ None) × unread × o.untouched
-Ends o unread (Some Run) fault told = EndsRun o fault told
+-- a fact of the words `run` under their options, and of no other words
+abbrev pub OfRun : Option Command → (Options → Type 0) → Type 0
+OfRun None P = Unit {0}
+OfRun (Some (Run options)) P = P options
 
--- the source was read to its end, the record is of its bytes, and the sink has taken its text
-pub record IsDone (left left_after held held_after : Option (List ℕ)) (fault : Option Fault) (told : Option Record) : Type 0 where
+-- with no command nothing is read and nothing is written, and so where there was no memory to read the words
+abbrev pub Ends : Outside → Type 0 → Result (Option Command) AllocError → Option Fault → Option Record → Type 0
+Ends o unread (Err lack) fault told = (fault ≡ Some NoMemory) × (told ≡ None) × unread × o.untouched
+Ends o unread (Ok None) fault told = (fault ≡ Some Usage) × (told ≡ None) × unread × o.untouched
+Ends o unread (Ok (Some (Run options))) fault told = EndsWork (run_work options) o fault told
+
+-- the source was read to its end, what is told is of its bytes, and the sink has taken its text
+pub record IsDone {T : Type 0} (w : WorkOf T) (left left_after held held_after : Option (List ℕ)) (fault : Option Fault) (told : Option T) : Type 0 where
   pub no_fault : fault ≡ None
-  pub the : Record
+  pub the : T
   pub told_is : told ≡ Some the
-  pub tells : Tells left left_after the
-  pub taken : HasTaken held (text_of the) held_after
+  pub tells : IsTold w left left_after the
+  pub taken : HasTaken held (w.text the) held_after
 
--- the sink failed, and has taken the front of the record's text
-pub record IsCutShort (left left_after held held_after : Option (List ℕ)) (faults faults_after : ℕ) (fault : Option Fault) (told : Option Record) : Type 0 where
+-- the sink failed, and has taken the front of the text of what is told
+pub record IsCutShort {T : Type 0} (w : WorkOf T) (left left_after held held_after : Option (List ℕ)) (faults faults_after : ℕ) (fault : Option Fault) (told : Option T) : Type 0 where
   pub fault_is : fault ≡ Some WriteFault
   pub rose : Rose faults faults_after
-  pub the : Record
+  pub the : T
   pub told_is : told ≡ Some the
-  pub tells : Tells left left_after the
-  pub taken : HasTakenPart held (text_of the) held_after
+  pub tells : IsTold w left left_after the
+  pub taken : HasTakenPart held (w.text the) held_after
 
--- the bytes read have the refusal that the fault holds
+-- the bytes read of a script have the refusal that the fault holds
 pub record IsRefusal (left : Option (List ℕ)) (fault : Option Fault) : Type 0 where
   pub the : ScriptRefusal
   pub fault_is : fault ≡ Some (Script the)
-  pub no_lack : the ≢ refusal.NoMemory
-  pub refused : OfScript left (λ bytes. run_refusal bytes ≡ Some the)
+  pub refused : OfBytes 16777216 left (λ bytes. IsRefused bytes the)
 
 -- the source failed
 pub record IsReadFault (faults faults_after : ℕ) (fault : Option Fault) : Type 0 where

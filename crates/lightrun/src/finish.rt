@@ -1,7 +1,6 @@
 //! How a run of the program ends.
 ghost use Rattle.std.specs.Prelude.{◌≡◌, Some, None};
 ghost use Rattle.lightrun.specs.Statuses.{end_status};
-ghost use Rattle.lightrun.specs.declared.fault.Fault.TheVariants.{WriteFault};
 
 use crate::fault::Fault;
 use lw_model::Record;
@@ -11,7 +10,7 @@ use lw_model::Record;
 pub struct Finish {
     /// 0 where there is no fault, else the fault's own (docs/usage.md).
     pub status: u8,
-    /// The record of the run, with status 0 and 4.
+    /// The record of the run, with status 0 and 4 of the words `run`.
     pub told: Option<Record>,
     pub fault: Option<Fault>,
     pub ghost agrees: { status ≡ end_status fault },
@@ -30,27 +29,19 @@ impl Finish {
         }
     }
 
-    // The text of a record was written.
-    pub(crate) fn done(told: Record) -> Self
-        ensures fault { result.fault ≡ None }
-        ensures told { result.told ≡ Some told }
+    // An end with what was told, if anything, and what went wrong, if anything.
+    pub(crate) fn of(told: Option<Record>, fault: Option<Fault>) -> Self
+        ensures fault { result.fault ≡ fault }
+        ensures told { result.told ≡ told }
     {
+        let status = match &fault {
+            Some(fault) => fault.status(),
+            None => 0,
+        };
         Finish {
-            status: 0,
-            told: Some(told),
-            fault: None,
-        }
-    }
-
-    // The text of a record was not written whole.
-    pub(crate) fn cut_short(told: Record) -> Self
-        ensures fault { result.fault ≡ Some WriteFault }
-        ensures told { result.told ≡ Some told }
-    {
-        Finish {
-            status: Fault::WriteFault.status(),
-            told: Some(told),
-            fault: Some(Fault::WriteFault),
+            status,
+            told,
+            fault,
         }
     }
 }

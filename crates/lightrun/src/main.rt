@@ -4,14 +4,17 @@
 ghost use Rattle.std.specs.Prelude.{◌≡◌, vec_len, IfOk};
 
 mod adapters;
+mod asked;
 mod fault;
 mod finish;
 mod program;
 mod reading;
 mod run;
+mod settings;
 #[cfg(test)]
 mod tests;
 mod words;
+mod work;
 mod writing;
 
 use adapters::{StdSink, StdSource, TickClock};

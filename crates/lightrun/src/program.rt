@@ -1,16 +1,19 @@
 //! The top call: what the words ask for, over a source, a sink, clocks and a gate.
-ghost use Rattle.std.specs.Prelude.{◌≡◌, ◌≢◌, ◌≤◌, ◌↔◌, ◌⊎◌, ℕ, List, Some, None, map, string_bytes, vec_len, IsSome};
+ghost use Rattle.std.specs.Prelude.{◌≡◌, ◌≢◌, ◌≤◌, ◌↔◌, ◌⊎◌, ℕ, List, Some, None, map, string_bytes, vec_len, IfOk, IfSome};
 ghost use Rattle.lw_base.specs.Outside.{Rose};
 ghost use Rattle.lw_model.specs.Served.{run_refusal};
 ghost use Rattle.lightrun.specs.Words.{command_of};
-ghost use Rattle.lightrun.specs.Runs.{script_bytes};
-ghost use Rattle.lightrun.specs.Program.{Ends, IsDone, IsCutShort, IsRefusal, IsReadFault};
+ghost use Rattle.lightrun.specs.Served.{Serves};
+ghost use Rattle.lightrun.specs.Runs.{run_work};
+ghost use Rattle.lightrun.specs.Works.{bytes_read};
+ghost use Rattle.lightrun.specs.Program.{Ends, OfRun, IsDone, IsCutShort, IsRefusal, IsReadFault};
 
 use crate::fault::Fault;
 use crate::finish::Finish;
-use crate::run::run;
+use crate::run::RunWork;
 use crate::words::{Command, command_of};
-use lw_base::{Clock, Gate, Sink, Source};
+use crate::work::carry_out;
+use lw_base::{Clock, Gate, NoMemory, Sink, Source};
 use std::alloc::Global;
 
 /// Does what the words ask for, and says how it ended.
@@ -28,35 +31,38 @@ pub fn lightrun<I: Source, O: Sink, C: Clock + Drop, G: Gate, R>(
     _gate: &G,
 ) -> Finish
     requires { vec_len clocks ≡ 16 }
-    ensures usage { (result.status ≡ 1) ↔ (command_of (map string_bytes words.now) ≡ None) }
+    ensures usage { result.status ≢ 5 → (result.status ≡ 1) ↔ (command_of (map string_bytes words.now) ≡ None) }
     ensures unread { result.status ≡ 1 → input.new ≡ input.old }
-    ensures done { result.status ≡ 0
-        → IsDone (I.left input.old) (I.left input.new) (O.holds out.old) (O.holds out.new) result.fault result.told }
-    ensures refused { result.status ≡ 2 → IsRefusal (I.left input.old) result.fault }
+    ensures done { OfRun (command_of (map string_bytes words.now)) (λ options. result.status ≡ 0
+        → IsDone (run_work options) (I.left input.old) (I.left input.new) (O.holds out.old) (O.holds out.new)
+        result.fault result.told) }
+    ensures refused { OfRun (command_of (map string_bytes words.now)) (λ _. result.status ≡ 2
+        → IsRefusal (I.left input.old) result.fault) }
     ensures read_fault { result.status ≡ 3 → IsReadFault (I.faults input.old) (I.faults input.new) result.fault }
-    ensures write_fault { result.status ≡ 4
-        → IsCutShort (I.left input.old) (I.left input.new) (O.holds out.old) (O.holds out.new)
-        (O.faults out.old) (O.faults out.new) result.fault result.told }
+    ensures write_fault { OfRun (command_of (map string_bytes words.now)) (λ options. result.status ≡ 4
+        → IsCutShort (run_work options) (I.left input.old) (I.left input.new) (O.holds out.old) (O.holds out.new)
+        (O.faults out.old) (O.faults out.new) result.fault result.told) }
     ensures unwritten { result.status ≢ 0 → result.status ≢ 4 → (result.told ≡ None) × (out.new ≡ out.old) }
     ensures statuses { result.status ≤ 5 }
-    ensures complete { (left : List ℕ) → IsSome (command_of (map string_bytes words.now)) → I.left input.old ≡ Some left
-        → run_refusal (script_bytes left) ≡ None
+    ensures complete { OfRun (command_of (map string_bytes words.now)) (λ _. (left : List ℕ) → I.left input.old ≡ Some left
+        → run_refusal (bytes_read 16777216 left) ≡ None
         → ¬ Rose (I.faults input.old) (I.faults input.new) → ¬ Rose (O.faults out.old) (O.faults out.new)
-        → (result.status ≡ 0) ⊎ (result.status ≡ 5) }
-    ensures not_refused { (left : List ℕ) → I.left input.old ≡ Some left → (result.status ≡ 0) ⊎ (result.status ≡ 4)
-        → run_refusal (script_bytes left) ≡ None }
+        → (result.status ≡ 0) ⊎ (result.status ≡ 5)) }
+    ensures not_refused { OfRun (command_of (map string_bytes words.now)) (λ _. (left : List ℕ) → I.left input.old ≡ Some left
+        → (result.status ≡ 0) ⊎ (result.status ≡ 4) → run_refusal (bytes_read 16777216 left) ≡ None) }
 {
     drop(clocks);
-    obey(alloc, command_of(words), input, out)
+    obey(alloc, command_of(alloc, words), input, out)
 }
 
-// Does what a command asks for.
+// Does what a command asks for, where there was memory to read the words.
 fn obey<I: Source, O: Sink>(
     alloc: Global,
-    command: Option<Command>,
+    asked: Result<Option<Command>, NoMemory>,
     input: &mut I,
     out: &mut O,
 ) -> Finish
+    requires { IfOk asked (λ c. IfSome c Serves) }
     ensures { Ends (record {
       left = I.left input.old;
       left_after = I.left input.new;
@@ -67,10 +73,14 @@ fn obey<I: Source, O: Sink>(
       write_faults = O.faults out.old;
       write_faults_after = O.faults out.new;
       untouched = out.new ≡ out.old;
-    }) (input.new ≡ input.old) command result.fault result.told }
+    }) (input.new ≡ input.old) asked result.fault result.told }
 {
-    match command {
-        Some(Command::Run) => run(alloc, input, out),
-        None => Finish::failed(Fault::Usage),
+    match asked {
+        Ok(Some(Command::Run(options))) => {
+            let ended = carry_out(alloc, &RunWork::new(options), input, out);
+            Finish::of(ended.told, ended.fault)
+        }
+        Ok(None) => Finish::failed(Fault::Usage),
+        Err(_) => Finish::failed(Fault::NoMemory),
     }
 }

@@ -37,9 +37,12 @@ fn clocks(alloc: Global) -> Result<Vec<ListClock>, NoMemory>
     Ok(clocks)
 }
 
-fn words(alloc: Global, word: &str) -> Result<Vec<String>, NoMemory> {
+// The words of a line with one space between two.
+fn words(alloc: Global, line: &str) -> Result<Vec<String>, NoMemory> {
     let mut words = Vec::new(alloc);
-    words.push(String::from_str(alloc, word)?)?;
+    for word in line.split(' ') {
+        words.push(String::from_str(alloc, word)?)?;
+    }
     Ok(words)
 }
 
@@ -99,37 +102,141 @@ fn a_pattern_goes_on_over_blocks(rt: HostRuntime) -> Result<(), Fail> {
 }
 
 #[test]
-fn faults_of_the_outside_are_told(rt: HostRuntime) -> Result<(), Fail> {
+fn a_source_may_fail_at_each_call(rt: HostRuntime) -> Result<(), Fail> {
     let alloc = rt.alloc();
     let run = words(alloc, "run")?;
-    let bytes = String::from_str(alloc, FIRST)?.into_bytes();
-    let unread = end_of(alloc, run.as_slice(), bytes, 10, (0, u64::MAX))?;
-    assert!(rt; unread.finish.status == 3 && unread.written.is_empty());
-    let bytes = String::from_str(alloc, FIRST)?.into_bytes();
-    let unwritten = end_of(alloc, run.as_slice(), bytes, 10, (u64::MAX, 1))?;
-    assert!(rt; unwritten.finish.status == 4 && unwritten.finish.told.is_some());
-    assert!(rt; unwritten.written.as_slice() == "lightrun r".as_bytes());
+    for call in 0..=FIRST.len() {
+        let bytes = String::from_str(alloc, FIRST)?.into_bytes();
+        let unread = end_of(alloc, run.as_slice(), bytes, 1, (call as u64, u64::MAX))?;
+        assert!(rt;
+            unread.finish.status == 3 && unread.finish.told.is_none(),
+            "at {call}"
+        );
+        assert!(rt; unread.written.is_empty());
+    }
+    Ok(())
+}
+
+#[test]
+fn a_sink_may_fail_at_each_call(rt: HostRuntime) -> Result<(), Fail> {
+    let alloc = rt.alloc();
+    let run = words(alloc, "run")?;
+    for call in 0..REPORT.len() {
+        let bytes = String::from_str(alloc, FIRST)?.into_bytes();
+        let ended = end_of(alloc, run.as_slice(), bytes, 10, (u64::MAX, call as u64))?;
+        let written = ended.written.len();
+        if ended.finish.status == 0 {
+            assert!(rt; ended.written.as_slice() == REPORT.as_bytes());
+            assert!(rt; call == REPORT.len().div_ceil(10));
+            return Ok(());
+        }
+        assert!(rt;
+            ended.finish.status == 4 && ended.finish.told.is_some(),
+            "at {call}"
+        );
+        assert!(rt; written / 10 == call && written % 10 == 0);
+        assert!(rt; REPORT.as_bytes().starts_with(ended.written.as_slice()));
+    }
+    Ok(())
+}
+
+// The status of words over a source of no bytes.
+fn status_of(alloc: Global, line: &str) -> Result<u8, NoMemory> {
+    let words = words(alloc, line)?;
+    let ended = end_of(alloc, words.as_slice(), Vec::new(alloc), 1, (u64::MAX, u64::MAX))?;
+    Ok(ended.finish.status)
+}
+
+#[test]
+fn the_words_of_the_table_are_commands(rt: HostRuntime) -> Result<(), Fail> {
+    for line in [
+        "run",
+        "run --period 5",
+        "run --period=5",
+        "run --period 00000000000000000005",
+        "run --period 1000000000000",
+        "run --scheduler static --reactors 01 --beside=000 --period 1",
+        "run --beside 0 --reactors=1 --scheduler=static",
+    ] {
+        assert_eq!(rt; status_of(rt.alloc(), line)?, 2, "{line}");
+    }
     Ok(())
 }
 
 #[test]
 fn other_words_are_usage(rt: HostRuntime) -> Result<(), Fail> {
     let alloc = rt.alloc();
-    for word in ["", "Run", "--help", "check"] {
-        let none = end_of(
-            alloc,
-            words(alloc, word)?.as_slice(),
-            Vec::new(alloc),
-            1,
-            (0, 0),
-        )?;
-        assert!(rt;
-            none.finish.status == 1 && none.written.is_empty(),
-            "at {word}"
-        );
+    for line in [
+        "",
+        "Run",
+        "walk",
+        "check",
+        "load 7 7",
+        "help",
+        "--help",
+        "--version",
+        "--period 5 run",
+        "run run",
+        "run help",
+        "run --help",
+        "run --version",
+        "run -h",
+        "run -p 5",
+        "run --",
+        "run --period 5 --",
+        "run -- --period 5",
+        "run --period",
+        "run --period=",
+        "run --period ",
+        "run --period --reactors 1",
+        "run --period --",
+        "run --period -5",
+        "run --period +5",
+        "run --period 5x",
+        "run --period 5 5",
+        "run --period=5=5",
+        "run --peri 5",
+        "run --period 5 --period 5",
+        "run --reactors 1 --reactors=1",
+        "run --scheduler static --scheduler static",
+        "run --period 0",
+        "run --period 1000000000001",
+        "run --period 000000000000000000005",
+        "run --period 99999999999999999999",
+        "run --scheduler",
+        "run --scheduler Static",
+        "run --reactors 0",
+        "run --reactors 17",
+        "run --beside 1",
+    ] {
+        assert_eq!(rt; status_of(alloc, line)?, 1, "{line}");
     }
     let none = end_of(alloc, &[], Vec::new(alloc), 1, (0, 0))?;
-    assert!(rt; none.finish.status == 1);
+    assert!(rt; none.finish.status == 1 && none.written.is_empty());
+    Ok(())
+}
+
+#[test]
+fn words_that_are_not_served_yet_are_usage(rt: HostRuntime) -> Result<(), Fail> {
+    for line in [
+        "run --scheduler dynamic",
+        "run --reactors 2",
+        "run --reactors=2 --beside 1",
+    ] {
+        assert_eq!(rt; status_of(rt.alloc(), line)?, 1, "{line}");
+    }
+    Ok(())
+}
+
+#[test]
+fn the_report_has_the_period_of_the_words(rt: HostRuntime) -> Result<(), Fail> {
+    let alloc = rt.alloc();
+    let run = words(alloc, "run --period 0000777")?;
+    let bytes = String::from_str(alloc, FIRST)?.into_bytes();
+    let ended = end_of(alloc, run.as_slice(), bytes, 8192, (u64::MAX, u64::MAX))?;
+    let front = "lightrun report 1\nscheduler static\nreactors 1\nperiod 777\npool 4 1\n";
+    assert!(rt; ended.finish.status == 0);
+    assert!(rt; ended.written.as_slice().starts_with(front.as_bytes()));
     Ok(())
 }
 

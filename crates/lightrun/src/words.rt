@@ -1,21 +1,74 @@
 //! The words of the command line.
-ghost use Rattle.std.specs.Prelude.{◌≡◌, map, string_bytes};
-ghost use Rattle.lightrun.specs.Words.{command_of};
+ghost use Rattle.std.specs.Prelude.{◌≡◌, ◌<◌, true, map, drop, length, string_bytes, IfOk, IfSome, option_and_then};
+ghost use Rattle.lw_model.specs.ScriptRules.{is_within};
+ghost use Rattle.lightrun.specs.Words.{command_of, run_by, run_under, options_of};
+ghost use Rattle.lightrun.specs.Parsed.{values_in};
+ghost use Rattle.lightrun.specs.Served.{Serves};
+
+use crate::asked::{are_unmarked, parsed};
+use crate::settings::options_of;
+use clap::ArgMatches;
+use lw_base::NoMemory;
+use lw_model::Scheduler;
+use lw_target::Options;
+use std::alloc::Global;
 
 /// What the words ask for.
-#[derive(Copy, Clone, PartialEq, Eq, Debug)]
+#[derive(Copy, Clone)]
 pub enum Command {
-    /// Reads a script, runs it and writes the report.
-    Run,
+    /// Reads a script, runs it under the options and writes the report.
+    Run(Options),
 }
 
 /// The command that the words are. None of the command table gives none.
-pub fn command_of(words: &[String]) -> Option<Command>
-    ensures { result ≡ command_of (map string_bytes words.now) }
+pub fn command_of(alloc: Global, words: &[String]) -> Result<Option<Command>, NoMemory>
+    ensures command { IfOk result (λ c. c ≡ command_of (map string_bytes words.now)) }
+    ensures served { IfOk result (λ c. IfSome c Serves) }
 {
-    if words.len() == 1 && words[0].as_str() == "run" {
-        Some(Command::Run)
+    if words.len() > 0 && words[0].as_str() == "run" {
+        run_by(alloc, words)
     } else {
-        None
+        Ok(None)
+    }
+}
+
+// `run`, by the words behind it.
+fn run_by(alloc: Global, words: &[String]) -> Result<Option<Command>, NoMemory>
+    requires { 0 < length words.now }
+    ensures command { IfOk result (λ c. c ≡ run_by (drop 1 (map string_bytes words.now))) }
+    ensures served { IfOk result (λ c. IfSome c Serves) }
+{
+    if !are_unmarked(&words[1..]) {
+        return Ok(None);
+    }
+    match parsed(alloc, words)? {
+        Some(matches) => Ok(run_with(&matches)),
+        None => Ok(None),
+    }
+}
+
+// `run`, by what clap found behind it.
+fn run_with(matches: &ArgMatches<'_>) -> Option<Command>
+    ensures command { result ≡ option_and_then run_under (options_of (values_in matches.now)) }
+    ensures served { IfSome result Serves }
+{
+    run_under(options_of(matches)?)
+}
+
+// `run` under these options, where they are served so far.
+fn run_under(options: Options) -> Option<Command>
+    requires { is_within 1 1000000000000 options.period ≡ true }
+    ensures command { result ≡ run_under options }
+    ensures served { IfSome result Serves }
+{
+    match options.scheduler {
+        Scheduler::Static => {
+            if options.reactors == 1 && options.beside == 0 {
+                Some(Command::Run(options))
+            } else {
+                None
+            }
+        }
+        Scheduler::Dynamic => None,
     }
 }

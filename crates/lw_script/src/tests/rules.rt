@@ -53,6 +53,18 @@ fn each_limit_is_met_and_passed(rt: HostRuntime) -> Result<(), Fail> {
             Some(ScriptRefusal::Limit { rule: 3 }),
         ),
         (
+            r#"{"name":"m","block":16,"blocks":1048576}"#,
+            r#"{"name":"a","depth":1,"ops":[]}"#,
+            "\"small\":1,\"large\":1024",
+            None,
+        ),
+        (
+            r#"{"name":"m","block":16,"blocks":1048577}"#,
+            "",
+            POOL,
+            Some(ScriptRefusal::Limit { rule: 3 }),
+        ),
+        (
             IMAGE,
             "",
             "\"small\":0,\"large\":1",
@@ -168,6 +180,7 @@ fn ops_are_refused_by_rule_and_then_by_place(rt: HostRuntime) -> Result<(), Fail
             r#"["write","m",0,4,"ab"],["write","m",3,1,""],["write","m",3,1,""]"#,
             pattern,
         ),
+        (r#"["put","m"],["write","m",3,1,"a"]"#, pattern),
         (r#"["put","m"],["write","m",3,1,"abc"]"#, pattern),
         (r#"["put","m"],["write","m",3,1,"0g"]"#, pattern),
     ];
@@ -222,6 +235,7 @@ fn counts_are_limited(rt: HostRuntime) -> Result<(), Fail> {
             Some(ScriptRefusal::Limit { rule: 6 }),
         ),
         (r#"["each"]"#, 1000, Some(ScriptRefusal::NotBuilt)),
+        (r#"["visit","m"]"#, 1000, Some(ScriptRefusal::NotBuilt)),
         (
             r#"["visit","m"]"#,
             1001,
@@ -243,6 +257,24 @@ fn counts_are_limited(rt: HostRuntime) -> Result<(), Fail> {
         let clients = repeated(alloc, CLIENT, clients)?;
         let text = script(alloc, images.as_str(), clients.as_str(), POOL)?;
         assert_eq!(rt; refusal(alloc, text.as_bytes()), wanted);
+    }
+    Ok(())
+}
+
+#[test]
+fn sixteen_images_are_read(rt: HostRuntime) -> Result<(), Fail> {
+    let alloc = rt.alloc();
+    for (count, wanted) in [
+        (16, ScriptRefusal::NotBuilt),
+        (17, ScriptRefusal::Limit { rule: 1 }),
+    ] {
+        let mut images = String::from_str(alloc, IMAGE)?;
+        for number in 1..count {
+            let image = format!(in alloc; ",{{\"name\":\"m{number}\",\"block\":16,\"blocks\":1}}")?;
+            images.push_str(image.as_str())?;
+        }
+        let text = script(alloc, images.as_str(), CLIENT, POOL)?;
+        assert_eq!(rt; refusal(alloc, text.as_bytes()), Some(wanted), "{count}");
     }
     Ok(())
 }

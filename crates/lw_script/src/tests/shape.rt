@@ -26,6 +26,10 @@ fn the_shape_comes_before_the_version(rt: HostRuntime) -> Result<(), Fail> {
             ScriptRefusal::Shape { rule: 2 },
         ),
         (
+            r#"{"version":1e2,"images":0,"clients":0,"pool":{}}"#,
+            ScriptRefusal::Shape { rule: 2 },
+        ),
+        (
             r#"{"version":18446744073709551616,"images":0,"clients":0,"pool":0}"#,
             ScriptRefusal::Shape { rule: 2 },
         ),
@@ -46,8 +50,20 @@ fn the_shape_comes_before_the_version(rt: HostRuntime) -> Result<(), Fail> {
             ScriptRefusal::Shape { rule: 6 },
         ),
         (
+            r#"{"version":2,"images":[],"clients":[{"name":"a","depth":1,"ops":[["wait",1.0]]}],"pool":{"small":1,"large":1}}"#,
+            ScriptRefusal::Shape { rule: 6 },
+        ),
+        (
             r#"{"version":2,"images":[],"clients":[],"pool":{"small":1,"large":1}}"#,
             ScriptRefusal::Version,
+        ),
+        (
+            r#"{"version":2,"images":[],"clients":[],"pool":{"small":"","large":1,"small":1}}"#,
+            ScriptRefusal::Version,
+        ),
+        (
+            r#"{"version":2,"images":[],"clients":[],"pool":{"small":1,"large":1,"small":""}}"#,
+            ScriptRefusal::Shape { rule: 3 },
         ),
         (
             r#"{"version":2,"images":[],"clients":[],"pool":{"small":1,"large":1},"version":1}"#,

@@ -1,7 +1,16 @@
-use Rattle.std.proofs.Common.{◌≡◌, ◌≤◌, ◌⊎◌, ◌∙◌, ℕ, subst, sym, Option, IsSome}
-use Rattle.lightrun.specs.Runs.{Outside}
+use Rattle.std.proofs.Common.{◌≡◌, ◌≤◌, ◌⊎◌, inl, inr, ◌∙◌, ℕ, ap, subst, sym, arith, Option, Some}
+use Rattle.lightrun.specs.declared.fault.Fault.{Fault}
+use Rattle.lightrun.specs.declared.fault.Fault.TheVariants.{NoMemory}
+use Rattle.lightrun.specs.Statuses.{end_status}
+use Rattle.lightrun.specs.Works.{Outside}
+use Rattle.lightrun.specs.Runs.{run_work}
 use Rattle.lightrun.proofs.Ending as ending
 use Rattle.lightrun.proofs.program.lightrun.Goals as goal
+
+-- want of memory is neither of two other ends
+neither : {status : ℕ} {fault : Option Fault} → status ≡ end_status fault → fault ≡ Some NoMemory → (status ≡ 0) ⊎ (status ≡ 4) → ⊥
+neither a n (inl h) = let x : 5 ≡ 0 = sym (ap end_status n) ∙ sym a ∙ h in absurd (omega (arith, x))
+neither a n (inr h) = let x : 5 ≡ 4 = sym (ap end_status n) ∙ sym a ∙ h in absurd (omega (arith, x))
 
 pub returns-clause-usage : goal.returns-clause-usage
 returns-clause-usage g c =
@@ -18,8 +27,10 @@ returns-clause-usage g c =
     } in
     let unread : Type 0 = c.obey.new.input ≡ c.args.input.now in
     let a = c.obey.result.agrees in
-    let ends = ending.usage o unread c.command_of.result c.obey.result.fault c.obey.result.told c.obey.ensures in
-    (λ h. sym c.command_of.ensures ∙ ends.0 (sym a ∙ h), λ h. a ∙ ends.1 (c.command_of.ensures ∙ h))
+    let fault = c.obey.result.fault in
+    let told = c.obey.result.told in
+    λ enough. let ends = ending.usage o unread c.command_of.result _ fault told c.command_of.ensures.command c.obey.ensures (λ h. enough (a ∙ h)) in
+    (λ h. ends.0 (sym a ∙ h), λ h. a ∙ ends.1 h)
 
 pub returns-clause-unread : goal.returns-clause-unread
 returns-clause-unread g c =
@@ -36,8 +47,9 @@ returns-clause-unread g c =
     } in
     let unread : Type 0 = c.obey.new.input ≡ c.args.input.now in
     let a = c.obey.result.agrees in
-    let ends = ending.unread_then o unread c.command_of.result c.obey.result.fault c.obey.result.told c.obey.ensures in
-    λ h. ends (sym a ∙ h)
+    let fault = c.obey.result.fault in
+    let told = c.obey.result.told in
+    λ h. ending.unread_then o unread c.command_of.result fault told c.obey.ensures (sym a ∙ h)
 
 pub returns-clause-done : goal.returns-clause-done
 returns-clause-done g c =
@@ -54,8 +66,11 @@ returns-clause-done g c =
     } in
     let unread : Type 0 = c.obey.new.input ≡ c.args.input.now in
     let a = c.obey.result.agrees in
-    let ends = ending.done o unread c.command_of.result c.obey.result.fault c.obey.result.told c.obey.ensures in
-    λ h. ends (sym a ∙ h)
+    let fault = c.obey.result.fault in
+    let told = c.obey.result.told in
+    ending.of_run o unread c.command_of.result _ fault told _ c.command_of.ensures.command c.obey.ensures
+    (λ options e. λ h. ending.done (run_work options) o fault told e (sym a ∙ h))
+    (λ options n. λ h. let x : 5 ≡ 0 = sym (ap end_status n) ∙ sym a ∙ h in absurd (omega (arith, x)))
 
 pub returns-clause-refused : goal.returns-clause-refused
 returns-clause-refused g c =
@@ -72,8 +87,11 @@ returns-clause-refused g c =
     } in
     let unread : Type 0 = c.obey.new.input ≡ c.args.input.now in
     let a = c.obey.result.agrees in
-    let ends = ending.refused o unread c.command_of.result c.obey.result.fault c.obey.result.told c.obey.ensures in
-    λ h. ends (sym a ∙ h)
+    let fault = c.obey.result.fault in
+    let told = c.obey.result.told in
+    ending.of_run o unread c.command_of.result _ fault told _ c.command_of.ensures.command c.obey.ensures
+    (λ options e. λ h. ending.refused options o fault told e (sym a ∙ h))
+    (λ options n. λ h. let x : 5 ≡ 2 = sym (ap end_status n) ∙ sym a ∙ h in absurd (omega (arith, x)))
 
 pub returns-clause-read_fault : goal.returns-clause-read_fault
 returns-clause-read_fault g c =
@@ -90,8 +108,9 @@ returns-clause-read_fault g c =
     } in
     let unread : Type 0 = c.obey.new.input ≡ c.args.input.now in
     let a = c.obey.result.agrees in
-    let ends = ending.read_fault o unread c.command_of.result c.obey.result.fault c.obey.result.told c.obey.ensures in
-    λ h. ends (sym a ∙ h)
+    let fault = c.obey.result.fault in
+    let told = c.obey.result.told in
+    λ h. ending.fault_then o unread c.command_of.result fault told c.obey.ensures (sym a ∙ h)
 
 pub returns-clause-write_fault : goal.returns-clause-write_fault
 returns-clause-write_fault g c =
@@ -108,8 +127,11 @@ returns-clause-write_fault g c =
     } in
     let unread : Type 0 = c.obey.new.input ≡ c.args.input.now in
     let a = c.obey.result.agrees in
-    let ends = ending.write_fault o unread c.command_of.result c.obey.result.fault c.obey.result.told c.obey.ensures in
-    λ h. ends (sym a ∙ h)
+    let fault = c.obey.result.fault in
+    let told = c.obey.result.told in
+    ending.of_run o unread c.command_of.result _ fault told _ c.command_of.ensures.command c.obey.ensures
+    (λ options e. λ h. ending.cut_short (run_work options) o fault told e (sym a ∙ h))
+    (λ options n. λ h. let x : 5 ≡ 4 = sym (ap end_status n) ∙ sym a ∙ h in absurd (omega (arith, x)))
 
 pub returns-clause-unwritten : goal.returns-clause-unwritten
 returns-clause-unwritten g c =
@@ -126,8 +148,9 @@ returns-clause-unwritten g c =
     } in
     let unread : Type 0 = c.obey.new.input ≡ c.args.input.now in
     let a = c.obey.result.agrees in
-    let ends = ending.unwritten o unread c.command_of.result c.obey.result.fault c.obey.result.told c.obey.ensures in
-    λ h k. ends (λ e. h (a ∙ e)) (λ e. k (a ∙ e))
+    let fault = c.obey.result.fault in
+    let told = c.obey.result.told in
+    λ h k. ending.nothing_written o unread c.command_of.result fault told c.obey.ensures (λ x. h (a ∙ x)) (λ x. k (a ∙ x))
 
 pub returns-clause-complete : goal.returns-clause-complete
 returns-clause-complete g c =
@@ -144,8 +167,11 @@ returns-clause-complete g c =
     } in
     let unread : Type 0 = c.obey.new.input ≡ c.args.input.now in
     let a = c.obey.result.agrees in
-    let ends = ending.complete o unread c.command_of.result c.obey.result.fault c.obey.result.told c.obey.ensures in
-    λ left there at free still calm. subst (λ n. (n ≡ 0) ⊎ (n ≡ 5)) (sym a) (ends left (subst (λ v. IsSome v) (sym c.command_of.ensures) there) at free still calm)
+    let fault = c.obey.result.fault in
+    let told = c.obey.result.told in
+    ending.of_run o unread c.command_of.result _ fault told _ c.command_of.ensures.command c.obey.ensures
+    (λ options e. λ left at free still calm. subst (λ n. (n ≡ 0) ⊎ (n ≡ 5)) (sym a) (ending.complete options o fault told e left at free still calm))
+    (λ options n. λ left at free still calm. inr (a ∙ ap end_status n))
 
 pub returns-clause-not_refused : goal.returns-clause-not_refused
 returns-clause-not_refused g c =
@@ -162,8 +188,11 @@ returns-clause-not_refused g c =
     } in
     let unread : Type 0 = c.obey.new.input ≡ c.args.input.now in
     let a = c.obey.result.agrees in
-    let ends = ending.not_refused o unread c.command_of.result c.obey.result.fault c.obey.result.told c.obey.ensures in
-    λ left at which. ends left at (subst (λ n. (n ≡ 0) ⊎ (n ≡ 4)) a which)
+    let fault = c.obey.result.fault in
+    let told = c.obey.result.told in
+    ending.of_run o unread c.command_of.result _ fault told _ c.command_of.ensures.command c.obey.ensures
+    (λ options e. λ left at which. ending.not_refused options o fault told e left at (subst (λ n. (n ≡ 0) ⊎ (n ≡ 4)) a which))
+    (λ options n. λ left at which. absurd (neither a n which))
 
 pub returns-clause-statuses : goal.returns-clause-statuses
 returns-clause-statuses g c = subst (λ n. n ≤ 5) (sym c.obey.result.agrees) (ending.statuses c.obey.result.fault)

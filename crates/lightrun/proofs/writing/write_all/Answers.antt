@@ -1,4 +1,4 @@
-use Rattle.std.proofs.Common.{◌+◌, ◌≤◌, ◌-◌, rules, arith, take, length, drop, length-take-le}
+use Rattle.std.proofs.Common.{◌-◌, arith, length, drop}
 use Rattle.std.proofs.lemmas.List.{length-drop, length-take}
 use Rattle.lightrun.proofs.Streams.{taken-next}
 use Rattle.lightrun.proofs.writing.write_all.Goals as goal

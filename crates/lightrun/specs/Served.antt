@@ -1,0 +1,8 @@
+-- The commands that the program carries out.
+use Rattle.lw_target.specs.Options.{AreServed}
+use Rattle.lightrun.specs.declared.words.Command.{Command}
+use Rattle.lightrun.specs.declared.words.Command.TheVariants.{Run}
+
+-- the run takes such options
+abbrev pub Serves : Command → Type 0
+Serves (Run options) = AreServed options
