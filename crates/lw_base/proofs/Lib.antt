@@ -1,2 +1,8 @@
 mod Pieces
 mod Readings
+pub mod Sums
+pub mod Tallies
+pub mod Registers
+pub mod Worlds
+pub mod Kept
+pub mod FirstWorld
