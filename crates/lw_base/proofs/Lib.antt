@@ -6,3 +6,7 @@ pub mod Registers
 pub mod Worlds
 pub mod Kept
 pub mod FirstWorld
+pub mod WalkPieces
+pub mod WalkNumerals
+pub mod Walks
+mod WalkExamples

@@ -74,19 +74,6 @@ at-put_other cells x y v i j apart = elim (cases_lt j 81) [
   | inr past ↦ at-past (put cells x y v) i j past ∙ sym (at-past cells i j past)
 ]
 
-pub at-put_small : (cells : List ℕ) (x y v i j most : ℕ) → x * 81 + y < length cells → v ≤ most → at cells i j ≤ most → at (put cells x y v) i j ≤ most
-at-put_small cells x y v i j most within small before = elim (cases_lt j 81) [
-  | inl narrow ↦ elim (same_or_not (i * 81 + j) (x * 81 + y)) [
-    | inl e ↦
-        let here = at-within (put cells x y v) i j narrow ∙ get_or-set_at cells (x * 81 + y) (i * 81 + j) v 0 e within in
-        omega (arith, here, small)
-    | inr apart ↦
-        let same = at-put_other cells x y v i j (λ near. apart) in
-        omega (arith, same, before)
-  ]
-  | inr past ↦ let none = at-past (put cells x y v) i j past in omega (arith, none)
-]
-
 pub other_row : (x y i j : ℕ) → y < 81 → j < 81 → i ≢ x → i * 81 + j ≢ x * 81 + y
 other_row x y i j narrow within apart = λ e. omega (arith, narrow, within, apart, e)
 
@@ -124,4 +111,14 @@ put_cases cells x y v i j narrow = elim (cases_lt j 81) [
     | inr same ↦ inr (at-within (put cells x y v) i j near ∙ same ∙ sym (at-within cells i j near))
   ]
   | inr past ↦ inr (at-past (put cells x y v) i j past ∙ sym (at-past cells i j past))
+]
+
+-- no number of the changed table is above a bound
+pub at-put_small : (cells : List ℕ) (x y v i j most : ℕ) → v ≤ most → at cells i j ≤ most → at (put cells x y v) i j ≤ most
+at-put_small cells x y v i j most small before = elim (cases_lt j 81) [
+  | inl near ↦ elim (set_cases cells (x * 81 + y) v (i * 81 + j) 0) [
+    | inl p ↦ let here = at-within (put cells x y v) i j near ∙ p.1 in omega (arith, here, small)
+    | inr same ↦ let there = at-within (put cells x y v) i j near ∙ same ∙ sym (at-within cells i j near) in omega (arith, there, before)
+  ]
+  | inr past ↦ let none = at-past (put cells x y v) i j past in omega (arith, none)
 ]

@@ -69,7 +69,7 @@ module _ (cells rows columns : List ℕ) (x y v : ℕ) (before : IsTallied cells
         size = length-set cells (x * 81 + y) v ∙ before.size ∙ ap (λ n. n * 81) (sym row_count);
         few_rows = omega (arith, row_count, before.few_rows);
         few_columns = omega (arith, column_count, before.few_columns);
-        small = λ i j. at-put_small cells x y v i j 1099511627776 within small (before.small i j);
+        small = λ i j. at-put_small cells x y v i j 1099511627776 small (before.small i j);
         row = λ i below.
             sums_step rows x of_row i (λ k. sum_below (length columns) (at (put cells x y v) k)) row_in (λ apart. row_others i apart (omega (arith, below, row_count))) (row_is ∙ row_this)
             ∙ ap (λ n. sum_below n (at (put cells x y v) i)) (sym column_count);

@@ -7,3 +7,6 @@ pub mod Register
 pub mod Keys
 pub mod World
 pub mod WorldParts
+pub mod WalkLines
+pub mod WalkForm
+pub mod Walk

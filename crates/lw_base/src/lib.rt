@@ -11,6 +11,7 @@ mod tagged;
 mod tally;
 #[cfg(test)]
 mod tests;
+mod walk;
 mod world;
 mod world_event;
 mod world_state;
@@ -21,6 +22,7 @@ pub use names::{Failed, NoMemory, ReactorId, ThreadId, Tick};
 pub use naming::Naming;
 pub use outside::{Clock, Gate, Sink, Source};
 pub use tagged::Tagged;
+pub use walk::{Walked, walk_text};
 pub use world::World;
 pub use world_event::{WorldEvent, WorldRefusal};
 pub use world_state::{Stage, Standing};
