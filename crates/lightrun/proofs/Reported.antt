@@ -1,7 +1,7 @@
 -- How the text of what is told was written.
 use Rattle.std.proofs.Common.{Option, Some, None}
 use Rattle.lightrun.specs.declared.fault.Fault.{Fault}
-use Rattle.lightrun.specs.declared.fault.Fault.TheVariants.{Usage, Script, ReadFault, WriteFault, NoMemory}
+use Rattle.lightrun.specs.declared.fault.Fault.TheVariants.{Usage, Script, Walk, ReadFault, WriteFault, NoMemory}
 use Rattle.lightrun.specs.Works.{WorkOf, Outside, IsTold, EndsText, EndsWork}
 
 -- with what was read before
@@ -10,6 +10,7 @@ pub ends : {T : Type 0} (w : WorkOf T) (o : Outside) (t : T) (fault : Option Fau
 ends w o t None told tells e = (t, e.0, tells, e.1)
 ends w o t (Some Usage) told tells e = absurd e
 ends w o t (Some (Script s)) told tells e = absurd e
+ends w o t (Some (Walk line)) told tells e = absurd e
 ends w o t (Some ReadFault) told tells e = absurd e
 ends w o t (Some WriteFault) told tells e = (t, e.0, tells, e.1, e.2)
 ends w o t (Some NoMemory) told tells e = e

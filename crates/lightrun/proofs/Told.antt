@@ -2,7 +2,7 @@
 use Rattle.std.proofs.Common.{◌≤◌, ◌+◌, ℕ, List, length, take, Option, Some, None, Result, Ok, Err, IfOk, IfErr, arith, ap, ◌∙◌, subst}
 use Rattle.std.proofs.lemmas.List.{drop_all, length-take}
 use Rattle.lightrun.specs.declared.fault.Fault.{Fault}
-use Rattle.lightrun.specs.declared.fault.Fault.TheVariants.{Usage, Script, ReadFault, WriteFault, NoMemory}
+use Rattle.lightrun.specs.declared.fault.Fault.TheVariants.{Usage, Script, Walk, ReadFault, WriteFault, NoMemory}
 use Rattle.lightrun.specs.Bytes.{GivesUpTo}
 use Rattle.lightrun.specs.Works.{WorkOf, Answers, Explains, ExplainsRead, IsTold, IsReadToEnd, OfBytes}
 
@@ -32,7 +32,8 @@ module _ {T : Type 0} (w : WorkOf T) (left after : Option (List ℕ)) (bytes : L
 
   explains_one : (before now : ℕ) (f : Fault) → Explains w bytes f → ExplainsRead w left before now f
   explains_one before now Usage e = e
-  explains_one before now (Script r) e = of_bytes w.most left after bytes (λ b. w.refuses b (Script r)) given e
+  explains_one before now (Script r) e = (e.0, of_bytes w.most left after bytes (λ b. w.refuses b (Script r)) given e.1)
+  explains_one before now (Walk line) e = (e.0, of_bytes w.most left after bytes (λ b. w.refuses b (Walk line)) given e.1)
   explains_one before now ReadFault e = absurd e
   explains_one before now WriteFault e = e
   explains_one before now NoMemory e = tt

@@ -5,4 +5,5 @@ pub mod Served
 pub mod Statuses
 pub mod Works
 pub mod Runs
+pub mod Walks
 pub mod Program

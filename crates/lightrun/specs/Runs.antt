@@ -30,11 +30,17 @@ abbrev pub IsRefusedBy : List ℕ → Fault → Type 0
 IsRefusedBy bytes (Script e) = IsRefused bytes e
 IsRefusedBy bytes _ = ⊥
 
+-- it refuses bytes by a script's refusal alone
+abbrev pub IsScriptFault : Fault → Type 0
+IsScriptFault (Script e) = Unit {0}
+IsScriptFault _ = ⊥
+
 -- `run` under options: a record is told of a script of at most 16 MiB, and its text is written
 abbrev pub run_work : Options → WorkOf Record
 run_work options = record {
   most = 16777216;
   tells = λ bytes r. IsRunOf bytes r × IsRunUnder options r;
+  may_refuse = IsScriptFault;
   refuses = IsRefusedBy;
   text = text_of;
 }

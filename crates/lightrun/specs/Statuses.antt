@@ -1,11 +1,12 @@
 -- The exit status of each end.
 use Rattle.std.specs.Prelude.{ℕ, Option, Some, None}
 use Rattle.lightrun.specs.declared.fault.Fault.{Fault}
-use Rattle.lightrun.specs.declared.fault.Fault.TheVariants.{Usage, Script, ReadFault, WriteFault, NoMemory}
+use Rattle.lightrun.specs.declared.fault.Fault.TheVariants.{Usage, Script, Walk, ReadFault, WriteFault, NoMemory}
 
 abbrev pub status_of : Fault → ℕ
 status_of Usage = 1
 status_of (Script refusal) = 2
+status_of (Walk line) = 2
 status_of ReadFault = 3
 status_of WriteFault = 4
 status_of NoMemory = 5

@@ -9,7 +9,7 @@ use Rattle.lw_model.specs.declared.record.Scheduler.TheVariants.{Static, Dynamic
 use Rattle.lw_model.specs.ScriptRules.{is_within}
 use Rattle.lw_target.specs.declared.options.Options.{Options}
 use Rattle.lightrun.specs.declared.words.Command.{Command}
-use Rattle.lightrun.specs.declared.words.Command.TheVariants.{Run}
+use Rattle.lightrun.specs.declared.words.Command.TheVariants.{Run, Walk}
 
 -- ---- options and their values
 
@@ -100,7 +100,12 @@ run_under options = if is_served_now options then Some (Run options) else None
 abbrev pub run_by : List (List ℕ) → Option Command
 run_by words = option_and_then run_under (option_and_then (λ given. options_of (values_of given)) (given_from None words))
 
+-- a command that takes no words
+abbrev pub alone : Command → List (List ℕ) → Option Command
+alone command [] = Some command
+alone command (word ∷ rest) = None
+
 -- the command that the words are, if any: the first word names it
 abbrev pub command_of : List (List ℕ) → Option Command
 command_of [] = None
-command_of (word ∷ rest) = if bytes_eq word (codes "run") then run_by rest else None
+command_of (word ∷ rest) = if bytes_eq word (codes "run") then run_by rest else if bytes_eq word (codes "walk") then alone Walk rest else None

@@ -2,13 +2,14 @@
 use Rattle.std.specs.Prelude.{◌≡◌, ◌+◌, ◌≤◌, ℕ, List, [], length, take, Option, Some, None, IfSome}
 use Rattle.lw_base.specs.Outside.{Rose, HasTaken}
 use Rattle.lightrun.specs.declared.fault.Fault.{Fault}
-use Rattle.lightrun.specs.declared.fault.Fault.TheVariants.{Usage, Script, ReadFault, WriteFault, NoMemory}
+use Rattle.lightrun.specs.declared.fault.Fault.TheVariants.{Usage, Script, Walk, ReadFault, WriteFault, NoMemory}
 use Rattle.lightrun.specs.Bytes.{HasTakenPart}
 
--- how many bytes it takes, what it may tell of bytes, which bytes it refuses by which fault, and the text of what it tells
+-- how many bytes it takes, what it may tell of bytes, by which faults it refuses bytes and which by each, and the text of what it tells
 pub record WorkOf (T : Type 0) : Type 1 where
   pub most : ℕ
   pub tells : List ℕ → T → Type 0
+  pub may_refuse : Fault → Type 0
   pub refuses : List ℕ → Fault → Type 0
   pub text : T → List ℕ
 
@@ -42,7 +43,8 @@ Explains w bytes Usage = ⊥
 Explains w bytes ReadFault = ⊥
 Explains w bytes WriteFault = ⊥
 Explains w bytes NoMemory = Unit {0}
-Explains w bytes (Script e) = w.refuses bytes (Script e)
+Explains w bytes (Script e) = w.may_refuse (Script e) × w.refuses bytes (Script e)
+Explains w bytes (Walk line) = w.may_refuse (Walk line) × w.refuses bytes (Walk line)
 
 -- bytes are answered within the limit
 abbrev pub Answers : {T : Type 0} → WorkOf T → List ℕ → T → Type 0
@@ -59,7 +61,8 @@ ExplainsRead w left before after Usage = ⊥
 ExplainsRead w left before after ReadFault = Rose before after
 ExplainsRead w left before after WriteFault = ⊥
 ExplainsRead w left before after NoMemory = Unit {0}
-ExplainsRead w left before after (Script e) = OfBytes w.most left (λ bytes. w.refuses bytes (Script e))
+ExplainsRead w left before after (Script e) = w.may_refuse (Script e) × OfBytes w.most left (λ bytes. w.refuses bytes (Script e))
+ExplainsRead w left before after (Walk line) = w.may_refuse (Walk line) × OfBytes w.most left (λ bytes. w.refuses bytes (Walk line))
 
 -- how writing a text ends, with what it is the text of
 abbrev pub EndsText : {T : Type 0} → T → List ℕ → Option (List ℕ) → Option (List ℕ) → ℕ → ℕ → Type 0 → Option Fault → Option T → Type 0
@@ -75,4 +78,5 @@ EndsWork w o (Some Usage) told = ⊥
 EndsWork w o (Some ReadFault) told = (told ≡ None) × Rose o.read_faults o.read_faults_after × o.untouched
 EndsWork w o (Some WriteFault) told = (t : _) × (told ≡ Some t) × IsTold w o.left o.left_after t × HasTakenPart o.held (w.text t) o.held_after × Rose o.write_faults o.write_faults_after
 EndsWork w o (Some NoMemory) told = (told ≡ None) × o.untouched
-EndsWork w o (Some (Script e)) told = (told ≡ None) × OfBytes w.most o.left (λ bytes. w.refuses bytes (Script e)) × o.untouched
+EndsWork w o (Some (Script e)) told = (told ≡ None) × w.may_refuse (Script e) × OfBytes w.most o.left (λ bytes. w.refuses bytes (Script e)) × o.untouched
+EndsWork w o (Some (Walk line)) told = (told ≡ None) × w.may_refuse (Walk line) × OfBytes w.most o.left (λ bytes. w.refuses bytes (Walk line)) × o.untouched

@@ -14,6 +14,9 @@ pub enum Fault {
     /// The bytes read are no script, or none that the run serves. Never `NoMemory`, which is a fault of its own.
     #[error("{0}")]
     Script(ScriptRefusal),
+    /// The bytes read are no walk: the first bad line, from 1, and 0 where there are too many bytes.
+    #[error("walk: line {line}")]
+    Walk { line: u64 },
     /// The source failed.
     #[error("read failed")]
     ReadFault,
@@ -25,13 +28,14 @@ pub enum Fault {
 }
 
 impl Fault {
-    /// The exit status: 1 usage, 2 script, 3 read fault, 4 write fault, 5 no memory.
+    /// The exit status: 1 usage, 2 script or walk, 3 read fault, 4 write fault, 5 no memory.
     pub fn status(&self) -> u8
         ensures { result ≡ status_of self.now }
     {
         match self {
             Fault::Usage => 1,
             Fault::Script(_) => 2,
+            Fault::Walk { .. } => 2,
             Fault::ReadFault => 3,
             Fault::WriteFault => 4,
             Fault::NoMemory => 5,

@@ -13,6 +13,7 @@ mod run;
 mod settings;
 #[cfg(test)]
 mod tests;
+mod walk;
 mod words;
 mod work;
 mod writing;

@@ -6,11 +6,13 @@ ghost use Rattle.lightrun.specs.Words.{command_of};
 ghost use Rattle.lightrun.specs.Served.{Serves};
 ghost use Rattle.lightrun.specs.Runs.{run_work};
 ghost use Rattle.lightrun.specs.Works.{bytes_read};
-ghost use Rattle.lightrun.specs.Program.{Ends, OfRun, IsDone, IsCutShort, IsRefusal, IsReadFault};
+ghost use Rattle.lw_base.specs.Walk.{walk_bad_line};
+ghost use Rattle.lightrun.specs.Program.{Ends, OfRun, OfWalk, IsDone, IsCutShort, IsRefusal, IsReadFault, IsWalkDone, IsWalkRefusal, IsWalkCutShort};
 
 use crate::fault::Fault;
 use crate::finish::Finish;
 use crate::run::RunWork;
+use crate::walk::WalkWork;
 use crate::words::{Command, command_of};
 use crate::work::carry_out;
 use lw_base::{Clock, Gate, NoMemory, Sink, Source};
@@ -38,9 +40,16 @@ pub fn lightrun<I: Source, O: Sink, C: Clock + Drop, G: Gate, R>(
         result.fault result.told) }
     ensures refused { OfRun (command_of (map string_bytes words.now)) (λ _. result.status ≡ 2
         → IsRefusal (I.left input.old) result.fault) }
+    ensures walked { OfWalk (command_of (map string_bytes words.now)) (result.status ≡ 0
+        → IsWalkDone (I.left input.old) (I.left input.new) (O.holds out.old) (O.holds out.new) result.fault result.told) }
+    ensures walk_refused { OfWalk (command_of (map string_bytes words.now)) (result.status ≡ 2
+        → IsWalkRefusal (I.left input.old) result.fault) }
     ensures read_fault { result.status ≡ 3 → IsReadFault (I.faults input.old) (I.faults input.new) result.fault }
     ensures write_fault { OfRun (command_of (map string_bytes words.now)) (λ options. result.status ≡ 4
         → IsCutShort (run_work options) (I.left input.old) (I.left input.new) (O.holds out.old) (O.holds out.new)
+        (O.faults out.old) (O.faults out.new) result.fault result.told) }
+    ensures walk_cut_short { OfWalk (command_of (map string_bytes words.now)) (result.status ≡ 4
+        → IsWalkCutShort (I.left input.old) (I.left input.new) (O.holds out.old) (O.holds out.new)
         (O.faults out.old) (O.faults out.new) result.fault result.told) }
     ensures unwritten { result.status ≢ 0 → result.status ≢ 4 → (result.told ≡ None) × (out.new ≡ out.old) }
     ensures statuses { result.status ≤ 5 }
@@ -50,6 +59,12 @@ pub fn lightrun<I: Source, O: Sink, C: Clock + Drop, G: Gate, R>(
         → (result.status ≡ 0) ⊎ (result.status ≡ 5)) }
     ensures not_refused { OfRun (command_of (map string_bytes words.now)) (λ _. (left : List ℕ) → I.left input.old ≡ Some left
         → (result.status ≡ 0) ⊎ (result.status ≡ 4) → run_refusal (bytes_read 16777216 left) ≡ None) }
+    ensures walk_complete { OfWalk (command_of (map string_bytes words.now)) ((left : List ℕ) → I.left input.old ≡ Some left
+        → walk_bad_line (bytes_read 16777216 left) ≡ None
+        → ¬ Rose (I.faults input.old) (I.faults input.new) → ¬ Rose (O.faults out.old) (O.faults out.new)
+        → (result.status ≡ 0) ⊎ (result.status ≡ 5)) }
+    ensures walk_not_refused { OfWalk (command_of (map string_bytes words.now)) ((left : List ℕ) → I.left input.old ≡ Some left
+        → (result.status ≡ 0) ⊎ (result.status ≡ 4) → walk_bad_line (bytes_read 16777216 left) ≡ None) }
 {
     drop(clocks);
     obey(alloc, command_of(alloc, words), input, out)
@@ -79,6 +94,10 @@ fn obey<I: Source, O: Sink>(
         Ok(Some(Command::Run(options))) => {
             let ended = carry_out(alloc, &RunWork::new(options), input, out);
             Finish::of(ended.told, ended.fault)
+        }
+        Ok(Some(Command::Walk)) => {
+            let ended = carry_out(alloc, &WalkWork, input, out);
+            Finish::of(None, ended.fault)
         }
         Ok(None) => Finish::failed(Fault::Usage),
         Err(_) => Finish::failed(Fault::NoMemory),

@@ -18,6 +18,8 @@ use std::alloc::Global;
 pub enum Command {
     /// Reads a script, runs it under the options and writes the report.
     Run(Options),
+    /// Reads a walk and writes its answer.
+    Walk,
 }
 
 /// The command that the words are. None of the command table gives none.
@@ -27,6 +29,8 @@ pub fn command_of(alloc: Global, words: &[String]) -> Result<Option<Command>, No
 {
     if words.len() > 0 && words[0].as_str() == "run" {
         run_by(alloc, words)
+    } else if words.len() == 1 && words[0].as_str() == "walk" {
+        Ok(Some(Command::Walk))
     } else {
         Ok(None)
     }

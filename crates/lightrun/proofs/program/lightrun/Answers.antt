@@ -196,3 +196,108 @@ returns-clause-not_refused g c =
 
 pub returns-clause-statuses : goal.returns-clause-statuses
 returns-clause-statuses g c = subst (λ n. n ≤ 5) (sym c.obey.result.agrees) (ending.statuses c.obey.result.fault)
+
+pub returns-clause-walked : goal.returns-clause-walked
+returns-clause-walked g c =
+    let o : Outside = record {
+      left = g.I.Source.left c.args.input.now;
+      left_after = g.I.Source.left c.obey.new.input;
+      read_faults = g.I.Source.faults c.args.input.now;
+      read_faults_after = g.I.Source.faults c.obey.new.input;
+      held = g.O.Sink.holds c.args.out.now;
+      held_after = g.O.Sink.holds c.obey.new.out;
+      write_faults = g.O.Sink.faults c.args.out.now;
+      write_faults_after = g.O.Sink.faults c.obey.new.out;
+      untouched = c.obey.new.out ≡ c.args.out.now;
+    } in
+    let unread : Type 0 = c.obey.new.input ≡ c.args.input.now in
+    let a = c.obey.result.agrees in
+    let fault = c.obey.result.fault in
+    let told = c.obey.result.told in
+    ending.of_walk o unread c.command_of.result _ fault told _ c.command_of.ensures.command c.obey.ensures
+    (λ answer none e. λ h. ending.walk_done o fault told answer none e (sym a ∙ h))
+    (λ n. λ h. let x : 5 ≡ 0 = sym (ap end_status n) ∙ sym a ∙ h in absurd (omega (arith, x)))
+
+pub returns-clause-walk_refused : goal.returns-clause-walk_refused
+returns-clause-walk_refused g c =
+    let o : Outside = record {
+      left = g.I.Source.left c.args.input.now;
+      left_after = g.I.Source.left c.obey.new.input;
+      read_faults = g.I.Source.faults c.args.input.now;
+      read_faults_after = g.I.Source.faults c.obey.new.input;
+      held = g.O.Sink.holds c.args.out.now;
+      held_after = g.O.Sink.holds c.obey.new.out;
+      write_faults = g.O.Sink.faults c.args.out.now;
+      write_faults_after = g.O.Sink.faults c.obey.new.out;
+      untouched = c.obey.new.out ≡ c.args.out.now;
+    } in
+    let unread : Type 0 = c.obey.new.input ≡ c.args.input.now in
+    let a = c.obey.result.agrees in
+    let fault = c.obey.result.fault in
+    let told = c.obey.result.told in
+    ending.of_walk o unread c.command_of.result _ fault told _ c.command_of.ensures.command c.obey.ensures
+    (λ answer none e. λ h. ending.walk_refused o fault answer e (sym a ∙ h))
+    (λ n. λ h. let x : 5 ≡ 2 = sym (ap end_status n) ∙ sym a ∙ h in absurd (omega (arith, x)))
+
+pub returns-clause-walk_cut_short : goal.returns-clause-walk_cut_short
+returns-clause-walk_cut_short g c =
+    let o : Outside = record {
+      left = g.I.Source.left c.args.input.now;
+      left_after = g.I.Source.left c.obey.new.input;
+      read_faults = g.I.Source.faults c.args.input.now;
+      read_faults_after = g.I.Source.faults c.obey.new.input;
+      held = g.O.Sink.holds c.args.out.now;
+      held_after = g.O.Sink.holds c.obey.new.out;
+      write_faults = g.O.Sink.faults c.args.out.now;
+      write_faults_after = g.O.Sink.faults c.obey.new.out;
+      untouched = c.obey.new.out ≡ c.args.out.now;
+    } in
+    let unread : Type 0 = c.obey.new.input ≡ c.args.input.now in
+    let a = c.obey.result.agrees in
+    let fault = c.obey.result.fault in
+    let told = c.obey.result.told in
+    ending.of_walk o unread c.command_of.result _ fault told _ c.command_of.ensures.command c.obey.ensures
+    (λ answer none e. λ h. ending.walk_cut_short o fault told answer none e (sym a ∙ h))
+    (λ n. λ h. let x : 5 ≡ 4 = sym (ap end_status n) ∙ sym a ∙ h in absurd (omega (arith, x)))
+
+pub returns-clause-walk_complete : goal.returns-clause-walk_complete
+returns-clause-walk_complete g c =
+    let o : Outside = record {
+      left = g.I.Source.left c.args.input.now;
+      left_after = g.I.Source.left c.obey.new.input;
+      read_faults = g.I.Source.faults c.args.input.now;
+      read_faults_after = g.I.Source.faults c.obey.new.input;
+      held = g.O.Sink.holds c.args.out.now;
+      held_after = g.O.Sink.holds c.obey.new.out;
+      write_faults = g.O.Sink.faults c.args.out.now;
+      write_faults_after = g.O.Sink.faults c.obey.new.out;
+      untouched = c.obey.new.out ≡ c.args.out.now;
+    } in
+    let unread : Type 0 = c.obey.new.input ≡ c.args.input.now in
+    let a = c.obey.result.agrees in
+    let fault = c.obey.result.fault in
+    let told = c.obey.result.told in
+    ending.of_walk o unread c.command_of.result _ fault told _ c.command_of.ensures.command c.obey.ensures
+    (λ answer none e. λ left at free still calm. subst (λ n. (n ≡ 0) ⊎ (n ≡ 5)) (sym a) (ending.walk_complete o fault answer e left at free still calm))
+    (λ n. λ left at free still calm. inr (a ∙ ap end_status n))
+
+pub returns-clause-walk_not_refused : goal.returns-clause-walk_not_refused
+returns-clause-walk_not_refused g c =
+    let o : Outside = record {
+      left = g.I.Source.left c.args.input.now;
+      left_after = g.I.Source.left c.obey.new.input;
+      read_faults = g.I.Source.faults c.args.input.now;
+      read_faults_after = g.I.Source.faults c.obey.new.input;
+      held = g.O.Sink.holds c.args.out.now;
+      held_after = g.O.Sink.holds c.obey.new.out;
+      write_faults = g.O.Sink.faults c.args.out.now;
+      write_faults_after = g.O.Sink.faults c.obey.new.out;
+      untouched = c.obey.new.out ≡ c.args.out.now;
+    } in
+    let unread : Type 0 = c.obey.new.input ≡ c.args.input.now in
+    let a = c.obey.result.agrees in
+    let fault = c.obey.result.fault in
+    let told = c.obey.result.told in
+    ending.of_walk o unread c.command_of.result _ fault told _ c.command_of.ensures.command c.obey.ensures
+    (λ answer none e. λ left at which. ending.walk_not_refused o fault answer e left at (subst (λ n. (n ≡ 0) ⊎ (n ≡ 4)) a which))
+    (λ n. λ left at which. absurd (neither a n which))
