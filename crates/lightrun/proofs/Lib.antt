@@ -1,7 +1,6 @@
 mod Ending
-mod Reported
 mod Streams
-mod Told
+mod WordExamples
 mod WordNumbers
 mod WordRows
 mod WordRules

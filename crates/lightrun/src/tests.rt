@@ -143,7 +143,13 @@ fn a_sink_may_fail_at_each_call(rt: HostRuntime) -> Result<(), Fail> {
 // The status of words over a source of no bytes.
 fn status_of(alloc: Global, line: &str) -> Result<u8, NoMemory> {
     let words = words(alloc, line)?;
-    let ended = end_of(alloc, words.as_slice(), Vec::new(alloc), 1, (u64::MAX, u64::MAX))?;
+    let ended = end_of(
+        alloc,
+        words.as_slice(),
+        Vec::new(alloc),
+        1,
+        (u64::MAX, u64::MAX),
+    )?;
     Ok(ended.finish.status)
 }
 
