@@ -1,5 +1,6 @@
 -- What a parse by clap says of the words.
 use Rattle.std.proofs.Common.{◌≡◌, ◌≢◌, ◌∙◌, ◌<◌, ◌-◌, take, ◌&&◌, not, inl, inr, Bool, true, false, true≢false, refl, sym, ap, subst, arith, List, [], ◌∷◌, map, drop, length, Option, Some, None, String, string_bytes, cond}
+use Rattle.std.specs.Prelude.{ℕ, codes, option_and_then}
 use Rattle.std.specs.Str.{bytes_eq}
 use Rattle.std.proofs.lemmas.List.{length-drop}
 use Rattle.std.proofs.Math.Seq.{take-length}
@@ -12,8 +13,9 @@ use Rattle.clap.specs.Walk.{Row}
 use Rattle.clap.specs.declared.error.Error.{Error}
 use Rattle.clap.specs.declared.error.kind.ErrorKind.TheVariants.{OutOfMemory}
 use Rattle.clap.specs.declared.parser.matches.ArgMatches.{ArgMatches}
-use Rattle.lightrun.specs.Parsed.{Parses, are_unmarked, run_app}
-use Rattle.lightrun.specs.Words.{Given, given_from, followed_by, is_flag, option_met, is_option}
+use Rattle.lightrun.specs.declared.words.Command.{Command}
+use Rattle.lightrun.specs.Parsed.{Parses, are_unmarked, run_app, values_in}
+use Rattle.lightrun.specs.Words.{Given, given_from, followed_by, is_flag, option_met, is_option, options_of, values_of, run_under, run_by}
 use Rattle.lightrun.proofs.WordRules.{run_is_simple}
 use Rattle.lightrun.proofs.WordWalk.{AreWords, Reads, reads}
 use Rattle.lightrun.proofs.WordRows.{values_found}
@@ -98,3 +100,13 @@ map_rest (word ∷ rest) = refl
 -- the words behind the first, as a slice of them
 pub rest_is : {Z : Type 0} (words : List (String Z)) → map string_bytes (take (length words - 1) (drop 1 words)) ≡ drop 1 (map string_bytes words)
 rest_is words = ap (map string_bytes) (ap (λ n. take n (drop 1 words)) (sym (length-drop 1 words)) ∙ take-length (drop 1 words)) ∙ map_rest words
+
+-- the options are told by the values of the four options
+pub same_options : (f g : List ℕ → List (List ℕ)) → ((name : List ℕ) → f name ≡ g name) → options_of f ≡ options_of g
+same_options f g e = rw (e (codes "scheduler"), e (codes "reactors"), e (codes "beside"), e (codes "period")) refl
+
+-- what clap found tells what `run` is asked to do
+pub run_found : (words : List Text) (m : ArgMatches) (command : Option Command) → Parses words (Some m) → command ≡ option_and_then run_under (options_of (values_in m)) → command ≡ run_by (drop 1 words)
+run_found words m command (given, is, has) e =
+    e ∙ ap (option_and_then run_under) (same_options (values_in m) (values_of given) has)
+    ∙ sym (ap (λ o. option_and_then run_under (option_and_then (λ (gs : List Given). options_of (values_of gs)) o)) is)
