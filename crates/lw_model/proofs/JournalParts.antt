@@ -1,4 +1,4 @@
--- In a lawful record the part of an image's journal that came from a client is what that client lists as sent on it.
+-- Where what was run is what was sent, the part of an image's journal that came from a client is what that client lists as sent on it.
 use Rattle.std.proofs.Common.{◌≡◌, ℕ, ◌+◌, ◌==◌, nat_lt, Bool, true, false, cond, List, [], ◌∷◌, ◌++◌, map, filter, filter_map, length, Option, Some, None, option_map, option_to_list, append-nil, refl, sym, ap, ap₂, ◌∙◌, inl, inr, arith, IsTrue}
 use Rattle.std.specs.List.{flat_map, cons_option}
 use Rattle.std.proofs.lemmas.Bool.{eq-eqb, ne_eqb, cases_eq}
@@ -18,7 +18,7 @@ use Rattle.lw_model.specs.declared.step.Step.TheVariants as step
 use Rattle.lw_model.specs.OwnOrder.{own_order_of, with_past, history}
 use Rattle.lw_model.specs.Sent.{sent_by, sent_by_did, sent_by_ran, sent_last, started, token_of_op, passed_on, completion, first_runner, referred}
 use Rattle.lw_model.specs.Journal.{request_of, sent_op, IsOfClients}
-use Rattle.lw_model.specs.Lawful.{Lawful}
+use Rattle.lw_model.specs.Lawful.{RanIsSent}
 
 -- the ops of the requests among some messages
 abbrev pub request_op : What → Option ℕ
@@ -146,10 +146,10 @@ steps_part r c d client past (s ∷ steps) = ops_in-append (owner_of r.script d)
     joined (Some k) = refl
 
 -- the journal's part from a client is the ops that it lists as sent on the image, in the client's own order
-pub journal_part : (r : Record) → Lawful r → IsOfClients r
-journal_part r lawful c d client image =
+pub journal_part : (r : Record) → RanIsSent r → IsOfClients r
+journal_part r rule c d client image =
     part_of_run c (ran_of r (owner_of r.script d))
-    ∙ ap (filter_map request_op) (lawful.ran_is_sent.all (owner_of r.script d) (omega arith) c)
+    ∙ ap (filter_map request_op) (rule.all (owner_of r.script d) (omega arith) c)
     ∙ ops_in-append (owner_of r.script d) (flat_map (λ p. sent_by r c p.0 p.1) (history r c)) (sent_last r.script c)
     ∙ ap₂ (λ a b. a ++ b) (steps_part r c d client [] (own_order_of r c)) last
     ∙ append-nil (filter_map (sent_op r c d) (own_order_of r c))

@@ -8,6 +8,8 @@ mod printed;
 mod read;
 #[cfg(test)]
 mod tests;
+#[cfg(test)]
+mod tests_of_words;
 mod text;
 mod threads;
 

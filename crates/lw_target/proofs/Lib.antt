@@ -5,3 +5,10 @@ mod Carrying
 mod Turning
 mod Accepted
 mod Printed
+mod WholeParts
+mod WholeAnswers
+mod WholeSent
+mod WholeRan
+mod WholeDevices
+mod WholeReplies
+mod Whole
