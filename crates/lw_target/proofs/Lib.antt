@@ -11,4 +11,4 @@ mod WholeSent
 mod WholeRan
 mod WholeDevices
 mod WholeReplies
-mod Whole
+mod WholeLawful
