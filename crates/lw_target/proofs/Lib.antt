@@ -1,4 +1,6 @@
 mod Mails
+mod Numbers
+pub mod Letters
 mod Answering
 mod Steps
 mod Carrying

@@ -51,11 +51,11 @@ may_go blocks ops sends fits all =
 stop_goes : (blocks : ℕ) (s : Outgoing) → IsStop s → FitsImage blocks s.what s.load
 stop_goes blocks s e = subst (λ w. FitsImage blocks w s.load) (sym e) tt
 
-pub client_turned : (old new : Target) (before after : Asked) (least : ℕ) → IsRunning old
+pub client_turned : (sender : ℕ) (old new : Target) (before after : Asked) (least : ℕ) → IsRunning old
     → Progress old.client new.client before after least → before.sends ≡ []
-    → Carried old.posts new.posts after.sends → new.acts.sends ≡ []
+    → Carried sender old.posts new.posts after.sends → new.acts.sends ≡ []
     → new.app ≡ old.app → new.owner ≡ old.owner → vec_len new.devices ≡ vec_len old.devices → Turned old new least
-client_turned old new before after least r p none carried asked app owner devices =
+client_turned sender old new before after least r p none carried asked app owner devices =
     let none_asked : asked_work before.sends ≡ 0 = ap asked_work none in
     let sends = p.sends (All-same (IsOfOps old.client.of.ops) before.sends [] none (All-nil (IsOfOps old.client.of.ops))) in
     record {
@@ -70,16 +70,16 @@ client_turned old new before after least r p none carried asked app owner device
         fits = subst (λ o. AllFit o.image.blocks new.posts.owner.waiting) (sym owner)
             (carried.fits old.owner.image.blocks r.fits (may_go old.owner.image.blocks old.client.of.ops after.sends r.ops sends));
         block = subst (λ o. 0 < o.image.block) (sym owner) r.block;
-        writes = omega (arith, r.writes, ap (λ o. o.image.writes) owner, ap length carried.ran);
+        writes = omega (arith, r.writes, ap (λ o. o.image.writes) owner, ap length carried.owner.ran);
       };
       work = omega (arith, p.work, none_asked, carried.work, ap app_work app);
     }
 
-pub app_turned : (old new : Target) (before after : Asked) (least : ℕ) → IsRunning old
+pub app_turned : (sender : ℕ) (old new : Target) (before after : Asked) (least : ℕ) → IsRunning old
     → Advance old.app new.app before after least → before.sends ≡ []
-    → Carried old.posts new.posts after.sends → new.acts.sends ≡ []
+    → Carried sender old.posts new.posts after.sends → new.acts.sends ≡ []
     → new.client ≡ old.client → new.owner ≡ old.owner → vec_len new.devices ≡ vec_len old.devices → Turned old new least
-app_turned old new before after least r p none carried asked client owner devices =
+app_turned sender old new before after least r p none carried asked client owner devices =
     let none_asked : asked_work before.sends ≡ 0 = ap asked_work none in
     let sends = p.sends (All-same IsStop before.sends [] none (All-nil IsStop)) in
     record {
@@ -95,21 +95,21 @@ app_turned old new before after least r p none carried asked client owner device
             (carried.fits old.owner.image.blocks r.fits
             (All-weaker IsStop (λ (s : Outgoing). FitsImage old.owner.image.blocks s.what s.load) (stop_goes old.owner.image.blocks) after.sends sends));
         block = subst (λ o. 0 < o.image.block) (sym owner) r.block;
-        writes = omega (arith, r.writes, ap (λ o. o.image.writes) owner, ap length carried.ran);
+        writes = omega (arith, r.writes, ap (λ o. o.image.writes) owner, ap length carried.owner.ran);
       };
       work = omega (arith, p.work, none_asked, carried.work, ap client_work client);
     }
 
 -- the owner runs a message, and its replies are carried
-pub owner_turned : (old new : Target) (taken : Posts) (mail : Mail) (before after : Asked) → IsRunning old
+pub owner_turned : (sender : ℕ) (old new : Target) (taken : Posts) (mail : Mail) (before after : Asked) → IsRunning old
     → old.posts.owner.waiting ≡ mail ∷ taken.owner.waiting → taken.owner.ran ≡ old.posts.owner.ran ++ mail.tag ∷ []
     → taken.owner.sent ≡ old.posts.owner.sent → taken.app ≡ old.posts.app → taken.client ≡ old.posts.client
     → before.sends ≡ [] → SameSize old.owner.image new.owner.image → new.owner.image.writes ≤ old.owner.image.writes + 1
     → ((blocks : ℕ) → AllMayGo blocks before.sends → AllMayGo blocks after.sends)
     → asked_work after.sends + 1 ≤ asked_work before.sends + weight mail.tag.what
-    → Carried taken new.posts after.sends → new.acts.sends ≡ []
+    → Carried sender taken new.posts after.sends → new.acts.sends ≡ []
     → new.app ≡ old.app → new.client ≡ old.client → vec_len new.devices ≡ vec_len old.devices → Turned old new 1
-owner_turned old new taken mail before after r first ran sent app_post client_post none size writes replies did carried asked app client devices =
+owner_turned sender old new taken mail before after r first ran sent app_post client_post none size writes replies did carried asked app client devices =
     let fit = λ (m : Mail). FitsImage old.owner.image.blocks m.tag.what m.load in
     let go = λ (s : Outgoing). FitsImage old.owner.image.blocks s.what s.load in
     let none_asked : asked_work before.sends ≡ 0 = ap asked_work none in
@@ -130,7 +130,7 @@ owner_turned old new taken mail before after r first ran sent app_post client_po
         ops = subst (λ b. OpsFit b new.client.of.ops) (sym size.1) (subst (λ c. OpsFit old.owner.image.blocks c.of.ops) (sym client) r.ops);
         fits = subst (λ b. AllFit b new.posts.owner.waiting) (sym size.1) (carried.fits old.owner.image.blocks rest sends);
         block = omega (arith, size.0, r.block);
-        writes = omega (arith, r.writes, writes, ap length carried.ran, one_ran);
+        writes = omega (arith, r.writes, writes, ap length carried.owner.ran, one_ran);
       };
       work = omega (arith, did, none_asked, carried.work, app_work_same, client_work_same, waiting_first _ _ mail first, ap client_work client, ap app_work app);
     }

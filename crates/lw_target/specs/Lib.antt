@@ -13,3 +13,5 @@ pub mod Options
 pub mod ClientLog
 pub mod ClientCalls
 pub mod WholeRun
+pub mod Numbering
+pub mod Letters

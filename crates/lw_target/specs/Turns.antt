@@ -6,6 +6,7 @@ use Rattle.lw_target.specs.declared.acts.Outgoing.{Outgoing}
 use Rattle.lw_target.specs.declared.posts.Posts.{Posts}
 use Rattle.lw_target.specs.declared.turns.Target.{Target}
 use Rattle.lw_target.specs.Messages.{AllFit, AllMayGo, IsWithin, operands, waiting_work, asked_work}
+use Rattle.lw_target.specs.Letters.{Got, posted}
 use Rattle.lw_target.specs.Ops.{asks_bytes}
 use Rattle.lw_target.specs.Work.{client_work, app_work}
 
@@ -20,9 +21,11 @@ posts_work p = waiting_work p.app.waiting + waiting_work p.client.waiting + wait
 abbrev pub HasSenders : Posts → Type 0
 HasSenders p = (length p.app.sent ≡ 3) × (length p.client.sent ≡ 3) × (length p.owner.sent ≡ 3)
 
--- some sends were delivered, each to its receiver, and nothing was run
-pub record Carried (old new : Posts) (sends : List Outgoing) : Type 0 where
-  pub ran : new.owner.ran ≡ old.owner.ran
+-- some sends of a thread were delivered, each to its receiver, and nothing was run
+pub record Carried (sender : ℕ) (old new : Posts) (sends : List Outgoing) : Type 0 where
+  pub app : Got old.app new.app (posted 0 sender sends)
+  pub client : Got old.client new.client (posted 1 sender sends)
+  pub owner : Got old.owner new.owner (posted 2 sender sends)
   pub senders : HasSenders old → HasSenders new
   pub work : posts_work new ≡ posts_work old + asked_work sends
   pub fits : (blocks : ℕ) → AllFit blocks old.owner.waiting → AllMayGo blocks sends → AllFit blocks new.owner.waiting

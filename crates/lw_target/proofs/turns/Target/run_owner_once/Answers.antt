@@ -7,7 +7,7 @@ pub returns : goal.returns
 returns c =
     let took = c.in_ok-mail.ensures in
     let done = c.in_ok-run.ensures in
-    owner_turned _ _ _ c.in-Some.mail c.begin.new.self c.run.new.acts c.requires
+    owner_turned _ _ _ _ c.in-Some.mail c.begin.new.self c.run.new.acts c.requires
     (subst (λ o. MatchOption o (c.args.self.now.posts.owner.waiting ≡ []) (λ m. c.args.self.now.posts.owner.waiting ≡ m ∷ c.take.new.self.waiting)) c.in-Some.is took.first)
     (subst (λ o. MatchOption o (c.take.new.self ≡ c.args.self.now.posts.owner) (λ m. c.take.new.self.ran ≡ c.args.self.now.posts.owner.ran ++ m.tag ∷ [])) c.in-Some.is took.ran)
     took.senders refl refl
