@@ -67,3 +67,7 @@ all_gone thread sender a b all left g e = record {
   ran = g.ran;
   waiting = sym (append-nil (letters b)) ∙ sym (ap (λ q. letters b ++ posted thread sender q) e) ∙ g.waiting;
 }
+
+-- where nothing was sent nothing came
+pub got_nothing : (thread sender : ℕ) (old new : Inbox) (sends : List Outgoing) → sends ≡ [] → Got old new (posted thread sender sends) → letters new ≡ letters old
+got_nothing thread sender old new sends none g = g.waiting ∙ ap (λ q. letters old ++ posted thread sender q) none ∙ append-nil (letters old)

@@ -1,6 +1,13 @@
 mod Mails
 mod Numbers
 pub mod Letters
+pub mod Told
+pub mod ClientRuns
+pub mod OwnerRuns
+pub mod Sends
+pub mod ClientTicks
+pub mod Ending
+pub mod AppTurns
 mod Answering
 mod Steps
 mod Carrying

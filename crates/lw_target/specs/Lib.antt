@@ -15,3 +15,4 @@ pub mod ClientCalls
 pub mod WholeRun
 pub mod Numbering
 pub mod Letters
+pub mod InOrder
