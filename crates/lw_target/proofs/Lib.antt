@@ -8,6 +8,8 @@ pub mod Sends
 pub mod ClientTicks
 pub mod Ending
 pub mod AppTurns
+pub mod Resting
+pub mod Whole
 mod Answering
 mod Steps
 mod Carrying
