@@ -1,5 +1,7 @@
 -- What a delivery leaves of the messages under way.
-use Rattle.std.proofs.Common.{ℕ, ◌≡◌, ◌+◌, List, [], ◌∷◌, ◌++◌, Result, Ok, Err, ◌∙◌, ap}
+use Rattle.lw_base.specs.declared.message.What.{What}
+use Rattle.lw_base.specs.declared.message.What.TheVariants as what
+use Rattle.std.proofs.Common.{ℕ, ◌≡◌, ◌+◌, ◌≤◌, arith, List, [], ◌∷◌, ◌++◌, Result, Ok, Err, ◌∙◌, ap}
 use Rattle.std.specs.Prelude.{OnOk}
 use Rattle.std.proofs.lemmas.List.Elements.{All-head, All-push, All-same}
 use Rattle.std.proofs.lemmas.List.Sums.{sum_by-cons}
@@ -24,3 +26,17 @@ owner_fits mails after mail out blocks e w l all one =
     All-same (λ (m : Mail). FitsImage blocks m.tag.what m.load) after (mails ++ mail ∷ []) e
     (All-push (λ (m : Mail). FitsImage blocks m.tag.what m.load) mails mail all
     (rw (w, l) (All-head (λ (s : Outgoing). FitsImage blocks s.what s.load) out [] one)))
+
+-- each message costs something to run
+pub weight_some : (w : What) → 1 ≤ weight w
+weight_some (what.Request k) = omega arith
+weight_some (what.Reply k) = omega arith
+weight_some (what.PutSelf d) = omega arith
+weight_some what.Done = omega arith
+weight_some (what.Visit a b d) = omega arith
+weight_some (what.Visited k) = omega arith
+weight_some (what.Cast a b) = omega arith
+weight_some (what.Casted k) = omega arith
+weight_some what.Stop = omega arith
+weight_some (what.Arrive a b) = omega arith
+weight_some (what.Order a b d) = omega arith

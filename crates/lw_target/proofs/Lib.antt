@@ -1,4 +1,15 @@
 mod Mails
+mod Numbers
+pub mod Letters
+pub mod Told
+pub mod ClientRuns
+pub mod OwnerRuns
+pub mod Sends
+pub mod ClientTicks
+pub mod Ending
+pub mod AppTurns
+pub mod Resting
+pub mod Whole
 mod Answering
 mod Steps
 mod Carrying

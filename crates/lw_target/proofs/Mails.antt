@@ -4,7 +4,7 @@ use Rattle.std.specs.Prelude.{Bool, ◌+◌}
 use Rattle.std.proofs.lemmas.List.Sums.{sum_by-append}
 use Rattle.lw_target.specs.declared.acts.Outgoing.{Outgoing}
 use Rattle.std.specs.List.{All, list_all}
-use Rattle.std.proofs.lemmas.List.Elements.{All-head, All-rest, All-same}
+use Rattle.std.proofs.lemmas.List.Elements.{All-head, All-rest, All-same, All-push}
 use Rattle.std.proofs.lemmas.List.Folds.{list_all-append}
 use Rattle.lw_target.specs.declared.mail.Mail.{Mail}
 use Rattle.lw_target.specs.Messages.{IsPrintable, asked_work, waiting_work, weight}
@@ -18,6 +18,10 @@ first_printable mails rest mail e all =
 
 pub rest_printable : (mails rest : List Mail) (mail : Mail) → mails ≡ mail ∷ rest → AllPrintable mails → AllPrintable rest
 rest_printable mails rest mail e all = All-rest (λ (m : Mail). IsPrintable m.tag.what m.load) mail rest mails e all
+
+pub push_printable : (mails after : List Mail) (mail : Mail) → after ≡ mails ++ mail ∷ [] → AllPrintable mails → IsPrintable mail.tag.what mail.load → AllPrintable after
+push_printable mails after mail e all one =
+    All-same (λ (m : Mail). IsPrintable m.tag.what m.load) after (mails ++ mail ∷ []) e (All-push (λ (m : Mail). IsPrintable m.tag.what m.load) mails mail all one)
 
 -- one test more, behind those that hold
 pub list_all_push : {X : Type 0} (p : X → Bool) (xs : List X) (x : X) → list_all p xs ≡ true → p x ≡ true → list_all p (xs ++ x ∷ []) ≡ true

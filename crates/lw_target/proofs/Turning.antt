@@ -1,5 +1,5 @@
 -- Polls of the threads.
-use Rattle.std.proofs.Common.{ℕ, ◌≡◌, ◌+◌, ◌≤◌, ◌<◌, true, List, [], ◌∷◌, ◌++◌, Some, get_or, length, arith, sym, ◌∙◌, ap, subst, length-append}
+use Rattle.std.proofs.Common.{ℕ, ◌≡◌, ◌+◌, ◌≤◌, ◌<◌, Bool, true, false, cond, List, [], ◌∷◌, ◌++◌, Some, get_or, length, arith, refl, sym, ◌∙◌, ap, subst, length-append}
 use Rattle.std.specs.Prelude.{vec_len, slice_get}
 use Rattle.std.specs.List.{All}
 use Rattle.std.proofs.lemmas.List.Elements.{All-nil, All-same, All-rest, All-weaker, All-get_or}
@@ -19,6 +19,19 @@ use Rattle.lw_target.specs.App.{Advance, IsStop}
 use Rattle.lw_target.specs.Client.{Progress}
 use Rattle.lw_target.specs.Work.{client_work, app_work}
 use Rattle.lw_target.specs.Turns.{Carried, OpsFit, IsRunning, Turned}
+use Rattle.lw_base.specs.declared.message.Tag.{Tag}
+use Rattle.lw_model.specs.declared.script.Script.{Script}
+use Rattle.lw_target.specs.declared.client.Client.{Client}
+use Rattle.lw_target.specs.declared.device.Device.{Device}
+use Rattle.lw_target.specs.Owner.{Serves}
+use Rattle.lw_target.specs.ClientLog.{Follows}
+use Rattle.lw_target.specs.ClientCalls.{WentOn, Rests}
+use Rattle.lw_target.specs.Letters.{Got, posted}
+use Rattle.lw_target.specs.InOrder.{IsInOrder, IsClientInOrder, IsTold, IsAnswered, IsAppInOrder}
+use Rattle.lw_target.specs.App.{IsDue, IsUnused, Ends}
+use Rattle.lw_target.proofs.AppTurns.{app_turn_order}
+use Rattle.lw_target.proofs.OwnerRuns.{serve_order}
+use Rattle.lw_target.proofs.ClientTicks.{ticked}
 use Rattle.lw_target.proofs.Carrying.{waiting_first}
 
 -- what holds of each element holds of the one at a place
@@ -51,11 +64,31 @@ may_go blocks ops sends fits all =
 stop_goes : (blocks : ℕ) (s : Outgoing) → IsStop s → FitsImage blocks s.what s.load
 stop_goes blocks s e = subst (λ w. FitsImage blocks w s.load) (sym e) tt
 
-pub client_turned : (old new : Target) (before after : Asked) (least : ℕ) → IsRunning old
-    → Progress old.client new.client before after least → before.sends ≡ []
-    → Carried old.posts new.posts after.sends → new.acts.sends ≡ []
-    → new.app ≡ old.app → new.owner ≡ old.owner → vec_len new.devices ≡ vec_len old.devices → Turned old new least
-client_turned old new before after least r p none carried asked app owner devices =
+-- a client that has told the app has nothing left to do
+none_left : (s : Script) (c : Client) (ran : List Tag) → Follows s c ran → c.done ≡ true → client_work c ≡ 0
+none_left s c ran f e =
+    let closed = (f.done e).0 in
+    let next = f.closed closed in
+    let close : ◌≡◌ {A = ℕ} (cond c.closed 0 (1 + vec_len c.channels)) 0 = ap (λ b. cond b 0 (1 + vec_len c.channels)) closed in
+    let tell : ◌≡◌ {A = ℕ} (cond c.done 0 2) 0 = ap {B = ℕ} (λ b. cond b 0 2) e in
+    omega (arith, next, close, tell)
+
+-- it lists nothing more then, and changes nothing
+quiet : (s : Script) (old new : Client) (ran : List Tag) (before after : Asked) (worked : Bool) (devices devices' : List Device) → before.sends ≡ [] → Follows s old ran
+    → Progress old new before after (cond worked 1 0) → (worked ≡ false → Rests old new before after devices devices')
+    → old.done ≡ true → (new ≡ old) × (devices' ≡ devices)
+quiet s old new ran before after true devices devices' none f p rests e =
+    let none_asked : asked_work before.sends ≡ 0 = ap asked_work none in
+    absurd (omega (arith, p.work, none_left s old ran f e, none_asked))
+quiet s old new ran before after false devices devices' none f p rests e = let r = rests refl in (r.client, r.same)
+
+pub client_turned : (old new : Target) (before after : Asked) (worked : Bool) → IsRunning old
+    → Progress old.client new.client before after (cond worked 1 0) → before.sends ≡ [] → before.ran ≡ length old.posts.client.ran
+    → WentOn old.client new.client before after old.devices.items new.devices.items
+    → (worked ≡ false → Rests old.client new.client before after old.devices.items new.devices.items)
+    → Carried 1 old.posts new.posts after.sends → new.acts.sends ≡ []
+    → new.app ≡ old.app → new.owner ≡ old.owner → vec_len new.devices ≡ vec_len old.devices → Turned old new (cond worked 1 0)
+client_turned old new before after worked r p none at went rests carried asked app owner devices =
     let none_asked : asked_work before.sends ≡ 0 = ap asked_work none in
     let sends = p.sends (All-same (IsOfOps old.client.of.ops) before.sends [] none (All-nil (IsOfOps old.client.of.ops))) in
     record {
@@ -70,16 +103,32 @@ client_turned old new before after least r p none carried asked app owner device
         fits = subst (λ o. AllFit o.image.blocks new.posts.owner.waiting) (sym owner)
             (carried.fits old.owner.image.blocks r.fits (may_go old.owner.image.blocks old.client.of.ops after.sends r.ops sends));
         block = subst (λ o. 0 < o.image.block) (sym owner) r.block;
-        writes = omega (arith, r.writes, ap (λ o. o.image.writes) owner, ap length carried.ran);
+        writes = omega (arith, r.writes, ap (λ o. o.image.writes) owner, ap length carried.owner.ran);
       };
+      order = λ s h.
+          let all = ticked s old.client new.client old.app old.owner.image before after old.devices.items new.devices.items
+          old.posts.app new.posts.app old.posts.client new.posts.client old.posts.owner new.posts.owner went none at carried.app carried.client carried.owner sends
+          (quiet s old.client new.client old.posts.client.ran before after worked old.devices.items new.devices.items none h.client.follows p rests) h.of
+          (record { addressed = h.addressed; clients = h.client; sent = h.sent; answered = h.answered; apps = h.app }) in
+          record {
+            of = h.of;
+            addressed = all.addressed;
+            client = all.clients;
+            sent = all.sent;
+            answered = subst (λ o. IsAnswered s new.client new.posts.client new.posts.owner o.image) (sym owner) all.answered;
+            app = subst (λ a. IsAppInOrder a new.client.done new.posts.app new.posts.owner new.devices.items) (sym app) all.apps;
+          };
       work = omega (arith, p.work, none_asked, carried.work, ap app_work app);
     }
 
-pub app_turned : (old new : Target) (before after : Asked) (least : ℕ) → IsRunning old
-    → Advance old.app new.app before after least → before.sends ≡ []
-    → Carried old.posts new.posts after.sends → new.acts.sends ≡ []
-    → new.client ≡ old.client → new.owner ≡ old.owner → vec_len new.devices ≡ vec_len old.devices → Turned old new least
-app_turned old new before after least r p none carried asked client owner devices =
+pub app_turned : (old new : Target) (before after : Asked) (worked : Bool) → IsRunning old
+    → Advance old.app new.app before after (cond worked 1 0) → before.sends ≡ [] → before.ran ≡ length old.posts.app.ran
+    → (old.app.done < old.app.clients → (new.app ≡ old.app) × (after ≡ before) × (new.devices.items ≡ old.devices.items))
+    → (old.app.ended ≡ true → (new.app ≡ old.app) × (after ≡ before) × (new.devices.items ≡ old.devices.items))
+    → (IsDue old.app → (v : Device) → old.devices.items ≡ v ∷ [] → IsUnused v → (worked ≡ true) × Ends old.app new.app before after v new.devices.items)
+    → Carried 0 old.posts new.posts after.sends → new.acts.sends ≡ []
+    → new.client ≡ old.client → new.owner ≡ old.owner → vec_len new.devices ≡ vec_len old.devices → Turned old new (cond worked 1 0)
+app_turned old new before after worked r p none at early ended over carried asked client owner devices =
     let none_asked : asked_work before.sends ≡ 0 = ap asked_work none in
     let sends = p.sends (All-same IsStop before.sends [] none (All-nil IsStop)) in
     record {
@@ -95,21 +144,37 @@ app_turned old new before after least r p none carried asked client owner device
             (carried.fits old.owner.image.blocks r.fits
             (All-weaker IsStop (λ (s : Outgoing). FitsImage old.owner.image.blocks s.what s.load) (stop_goes old.owner.image.blocks) after.sends sends));
         block = subst (λ o. 0 < o.image.block) (sym owner) r.block;
-        writes = omega (arith, r.writes, ap (λ o. o.image.writes) owner, ap length carried.ran);
+        writes = omega (arith, r.writes, ap (λ o. o.image.writes) owner, ap length carried.owner.ran);
       };
+      order = λ s h.
+          let all = app_turn_order s old.client old.app new.app old.owner.image before after old.posts.app new.posts.app old.posts.client new.posts.client old.posts.owner new.posts.owner
+          old.devices.items new.devices.items worked none at (sym old.devices.ok.0 ∙ r.client_devices) early ended over
+          (record { addressed = h.addressed; clients = h.client; sent = h.sent; answered = h.answered; apps = h.app })
+          carried.app carried.client carried.owner in
+          record {
+            of = h.of;
+            addressed = all.addressed;
+            client = subst (λ c. IsClientInOrder s c new.posts.client new.devices.items) (sym client) all.clients;
+            sent = subst (λ c. IsTold s c new.posts.client new.posts.owner) (sym client) all.sent;
+            answered = subst (λ c. IsAnswered s c new.posts.client new.posts.owner new.owner.image) (sym client)
+                (subst (λ o. IsAnswered s old.client new.posts.client new.posts.owner o.image) (sym owner) all.answered);
+            app = subst (λ c. IsAppInOrder new.app c.done new.posts.app new.posts.owner new.devices.items) (sym client) all.apps;
+          };
       work = omega (arith, p.work, none_asked, carried.work, ap client_work client);
     }
 
 -- the owner runs a message, and its replies are carried
 pub owner_turned : (old new : Target) (taken : Posts) (mail : Mail) (before after : Asked) → IsRunning old
+    → Serves old.owner new.owner mail before.sends after.sends
     → old.posts.owner.waiting ≡ mail ∷ taken.owner.waiting → taken.owner.ran ≡ old.posts.owner.ran ++ mail.tag ∷ []
     → taken.owner.sent ≡ old.posts.owner.sent → taken.app ≡ old.posts.app → taken.client ≡ old.posts.client
     → before.sends ≡ [] → SameSize old.owner.image new.owner.image → new.owner.image.writes ≤ old.owner.image.writes + 1
     → ((blocks : ℕ) → AllMayGo blocks before.sends → AllMayGo blocks after.sends)
     → asked_work after.sends + 1 ≤ asked_work before.sends + weight mail.tag.what
-    → Carried taken new.posts after.sends → new.acts.sends ≡ []
-    → new.app ≡ old.app → new.client ≡ old.client → vec_len new.devices ≡ vec_len old.devices → Turned old new 1
-owner_turned old new taken mail before after r first ran sent app_post client_post none size writes replies did carried asked app client devices =
+    → Carried 2 taken new.posts after.sends → new.acts.sends ≡ []
+    → new.app ≡ old.app → new.client ≡ old.client → new.devices ≡ old.devices → Turned old new 1
+owner_turned old new taken mail before after r serves first ran sent app_post client_post none size writes replies did carried asked app client same_devices =
+    let devices : vec_len new.devices ≡ vec_len old.devices = ap vec_len same_devices in
     let fit = λ (m : Mail). FitsImage old.owner.image.blocks m.tag.what m.load in
     let go = λ (s : Outgoing). FitsImage old.owner.image.blocks s.what s.load in
     let none_asked : asked_work before.sends ≡ 0 = ap asked_work none in
@@ -130,7 +195,25 @@ owner_turned old new taken mail before after r first ran sent app_post client_po
         ops = subst (λ b. OpsFit b new.client.of.ops) (sym size.1) (subst (λ c. OpsFit old.owner.image.blocks c.of.ops) (sym client) r.ops);
         fits = subst (λ b. AllFit b new.posts.owner.waiting) (sym size.1) (carried.fits old.owner.image.blocks rest sends);
         block = omega (arith, size.0, r.block);
-        writes = omega (arith, r.writes, writes, ap length carried.ran, one_ran);
+        writes = omega (arith, r.writes, writes, ap length carried.owner.ran, one_ran);
       };
+      order = λ s h.
+          let all = serve_order s old.client old.app old.devices.items old.posts.app new.posts.app old.posts.client new.posts.client old.posts.owner taken.owner new.posts.owner
+          old.owner new.owner mail.tag.sender mail.tag.number mail.load after.sends mail.tag.what first ran
+          (subst (λ b. Serves old.owner new.owner mail b after.sends) none serves) size.0
+          (subst (λ p. Got p new.posts.app (posted 0 2 after.sends)) app_post carried.app)
+          (subst (λ p. Got p new.posts.client (posted 1 2 after.sends)) client_post carried.client) carried.owner
+          (record { addressed = h.addressed; clients = h.client; sent = h.sent; answered = h.answered; apps = h.app }) in
+          record {
+            of = h.of;
+            addressed = all.addressed;
+            client = subst (λ c. IsClientInOrder s c new.posts.client new.devices.items) (sym client)
+                (subst (λ d. IsClientInOrder s old.client new.posts.client d.items) (sym same_devices) all.clients);
+            sent = subst (λ c. IsTold s c new.posts.client new.posts.owner) (sym client) all.sent;
+            answered = subst (λ c. IsAnswered s c new.posts.client new.posts.owner new.owner.image) (sym client) all.answered;
+            app = subst (λ a. IsAppInOrder a new.client.done new.posts.app new.posts.owner new.devices.items) (sym app)
+                (subst (λ c. IsAppInOrder old.app c.done new.posts.app new.posts.owner new.devices.items) (sym client)
+                (subst (λ d. IsAppInOrder old.app old.client.done new.posts.app new.posts.owner d.items) (sym same_devices) all.apps));
+          };
       work = omega (arith, did, none_asked, carried.work, app_work_same, client_work_same, waiting_first _ _ mail first, ap client_work client, ap app_work app);
     }

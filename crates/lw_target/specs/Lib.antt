@@ -13,3 +13,6 @@ pub mod Options
 pub mod ClientLog
 pub mod ClientCalls
 pub mod WholeRun
+pub mod Numbering
+pub mod Letters
+pub mod InOrder

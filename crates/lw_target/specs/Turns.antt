@@ -1,11 +1,15 @@
 -- The messages under way, and the turns that carry them.
-use Rattle.std.specs.Prelude.{ℕ, ◌≡◌, ◌+◌, ◌≤◌, ◌<◌, true, List, [], length, vec_len}
+use Rattle.std.specs.Prelude.{ℕ, ◌⊎◌, ◌≡◌, ◌+◌, ◌≤◌, ◌<◌, true, false, List, [], length, vec_len}
 use Rattle.std.specs.List.{All}
 use Rattle.lw_model.specs.declared.script.Op.{Op}
+use Rattle.lw_model.specs.declared.script.Script.{Script}
 use Rattle.lw_target.specs.declared.acts.Outgoing.{Outgoing}
 use Rattle.lw_target.specs.declared.posts.Posts.{Posts}
 use Rattle.lw_target.specs.declared.turns.Target.{Target}
 use Rattle.lw_target.specs.Messages.{AllFit, AllMayGo, IsWithin, operands, waiting_work, asked_work}
+use Rattle.lw_target.specs.ClientLog.{IsHeldUp}
+use Rattle.lw_target.specs.Letters.{Got, letters, posted}
+use Rattle.lw_target.specs.InOrder.{IsInOrder}
 use Rattle.lw_target.specs.Ops.{asks_bytes}
 use Rattle.lw_target.specs.Work.{client_work, app_work}
 
@@ -20,9 +24,11 @@ posts_work p = waiting_work p.app.waiting + waiting_work p.client.waiting + wait
 abbrev pub HasSenders : Posts → Type 0
 HasSenders p = (length p.app.sent ≡ 3) × (length p.client.sent ≡ 3) × (length p.owner.sent ≡ 3)
 
--- some sends were delivered, each to its receiver, and nothing was run
-pub record Carried (old new : Posts) (sends : List Outgoing) : Type 0 where
-  pub ran : new.owner.ran ≡ old.owner.ran
+-- some sends of a thread were delivered, each to its receiver, and nothing was run
+pub record Carried (sender : ℕ) (old new : Posts) (sends : List Outgoing) : Type 0 where
+  pub app : Got old.app new.app (posted 0 sender sends)
+  pub client : Got old.client new.client (posted 1 sender sends)
+  pub owner : Got old.owner new.owner (posted 2 sender sends)
   pub senders : HasSenders old → HasSenders new
   pub work : posts_work new ≡ posts_work old + asked_work sends
   pub fits : (blocks : ℕ) → AllFit blocks old.owner.waiting → AllMayGo blocks sends → AllFit blocks new.owner.waiting
@@ -47,4 +53,22 @@ pub record Turned (old new : Target) (least : ℕ) : Type 0 where
   pub of : new.client.of ≡ old.client.of
   pub devices : vec_len new.app.owed ≡ vec_len old.app.owed
   pub running : IsRunning new
+  pub order : (s : Script) → IsInOrder s old → IsInOrder s new
   pub work : work new + least ≤ work old
+
+-- nothing was done
+pub record Still (old new : Target) : Type 0 where
+  pub app : new.app ≡ old.app
+  pub client : new.client ≡ old.client
+  pub owner : new.owner ≡ old.owner
+  pub devices : new.devices.items ≡ old.devices.items
+  pub app_waits : letters new.posts.app ≡ letters old.posts.app
+  pub client_waits : letters new.posts.client ≡ letters old.posts.client
+  pub owner_waits : letters new.posts.owner ≡ letters old.posts.owner
+
+-- why the client does nothing, and why the app
+abbrev pub CanRest : Target → Type 0
+CanRest t = t.client.done ≡ false → 1 ≤ t.client.of.depth → IsHeldUp t.client
+
+abbrev pub MayRest : Target → Type 0
+MayRest t = (t.app.began ≡ true) ⊎ (t.app.done < t.app.clients)

@@ -1,5 +1,5 @@
 //! The app: once every client is done it unregisters the devices, makes their callbacks and stops the owners.
-ghost use Rattle.std.specs.Prelude.{◌≡◌, ◌≢◌, ◌<◌, ◌≤◌, ◌+◌, ◌↔◌, length, vec_len, cond, true, false, nat_lt, count_by, slice_index_or, OnOk, IfOk, IsTrue};
+ghost use Rattle.std.specs.Prelude.{[], ◌∷◌, ◌++◌, min, None, is_none, slice_set, replicate, ◌≡◌, ◌≢◌, ◌<◌, ◌≤◌, ◌+◌, ◌↔◌, length, vec_len, cond, true, false, nat_lt, count_by, slice_index_or, OnOk, IfOk, IsTrue};
 ghost use Rattle.std.specs.List.{All, list_all};
 
 use crate::acts::Acts;
@@ -31,14 +31,19 @@ pub struct App {
 }
 
 impl App {
-    ghost use Rattle.lw_target.specs.App.{Advance, IsStop};
+    ghost use Rattle.lw_target.specs.declared.device.Device.{Device};
+    ghost use Rattle.lw_target.specs.Answers.{unregister_answer};
+    ghost use Rattle.lw_target.specs.App.{Advance, IsStop, IsDue, IsUnused, Ends, Begins, Calls, Stops, SameCalls, SameLines, unregistered, called_back};
     ghost use Rattle.lw_target.specs.Work.{app_work};
 
     /// The app of a run with so many clients and devices.
     pub fn new(alloc: Global, clients: u32, devices: usize) -> Result<App, NoMemory>
         requires clients { clients ≤ 64 }
         requires few { devices ≤ 16 }
-        ensures { IfOk result (λ a. vec_len a.owed ≡ devices) }
+        ensures devices { IfOk result (λ a. vec_len a.owed ≡ devices) }
+        ensures clients { IfOk result (λ a. a.clients ≡ clients) }
+        ensures fresh { IfOk result (λ a. (a.done ≡ 0) × (a.began ≡ false) × (a.ended ≡ false)) }
+        ensures nothing { IfOk result (λ a. (a.owed.items ≡ replicate devices false) × (a.did ≡ []) × (a.called ≡ [])) }
     {
         Ok(App {
             clients,
@@ -56,6 +61,9 @@ impl App {
         ensures devices { vec_len self.new.owed ≡ vec_len self.old.owed }
         ensures work { app_work self.new ≡ app_work self.old }
         ensures done { self.new.done ≤ self.old.done + 1 }
+        ensures counted { mail.now.tag.what ≡ What.Done → self.new ≡ record self.old {
+          done = min (self.old.done + 1) 4294967295;
+        } }
         ensures others { mail.now.tag.what ≢ What.Done → self.new ≡ self.old }
     {
         if let What::Done = mail.tag.what {
@@ -70,14 +78,18 @@ impl App {
         ensures advance { IfOk result (λ worked. Advance self.old self.new acts.old acts.new (cond worked 1 0)) }
         ensures early { self.old.done < self.old.clients
             → (self.new ≡ self.old) × (acts.new ≡ acts.old) × (devices.new ≡ devices.old) }
+        ensures ended { self.old.ended ≡ true
+            → (self.new ≡ self.old) × (acts.new ≡ acts.old) × (devices.new ≡ devices.old) }
+        ensures over { IfOk result (λ worked. IsDue self.old → (v : Device) → devices.old ≡ v ∷ [] → IsUnused v
+            → (worked ≡ true) × Ends self.old self.new acts.old acts.new v devices.new) }
     {
         if self.ended || self.done < self.clients {
             return Ok(false);
         }
-        let began = self.begin(devices, acts.ran())?;
-        let called = self.call_back(devices, acts.ran())?;
-        let stopped = self.stop_owners(acts)?;
-        Ok(began || called || stopped)
+        let mut worked = self.begin(devices, acts.ran())?;
+        worked |= self.call_back(devices, acts.ran())?;
+        worked |= self.stop_owners(acts)?;
+        Ok(worked)
     }
 
     // Unregisters each device, unless it has done so.
@@ -86,23 +98,40 @@ impl App {
         ensures devices { OnOk result (vec_len self.new.owed ≡ vec_len self.old.owed) }
         ensures ended { OnOk result (self.new.ended ≡ self.old.ended) }
         ensures work { IfOk result (λ worked. app_work self.new + cond worked 1 0 ≤ app_work self.old) }
+        ensures one { IfOk result (λ worked. self.old.began ≡ false → (v : Device) → devices.old ≡ v ∷ [] → v.shut_by ≡ None
+            → (worked ≡ true) × Begins self.old self.new at v devices.new) }
     {
         if self.began {
             return Ok(false);
         }
         self.began = true;
-        for device in 0..devices.len() {
-            let answer = devices[device].unregister(APP);
-            if let Answer::Began { .. } = answer {
-                self.owed[device] = true;
-            }
-            self.did.push(Did {
-                at,
-                op: device as u32,
-                answer,
-            })?;
+        for place in 0..devices.len() {
+            self.shut(place, &mut devices[place], at)?;
         }
         Ok(true)
+    }
+
+    // Unregisters a device, and owes its callback where that began here.
+    fn shut(&mut self, place: usize, device: &mut Device, at: u64) -> Result<(), NoMemory>
+        requires { place < vec_len self.old.owed }
+        ensures listed { OnOk result (self.new.did ≡ self.old.did ++ record {
+          at = at;
+          op = place;
+          answer = unregister_answer device.old;
+        } ∷ []) }
+        ensures owed { self.new.owed.items ≡ slice_set self.old.owed.items place (is_none device.old.shut_by) }
+        ensures devices { vec_len self.new.owed ≡ vec_len self.old.owed }
+        ensures device { device.new ≡ unregistered device.old }
+        ensures began { self.new.began ≡ self.old.began }
+        ensures rest { SameCalls self.old self.new }
+    {
+        self.owed[place] = !device.is_shut();
+        let answer = device.unregister(APP);
+        self.did.push(Did {
+            at,
+            op: place as u32,
+            answer,
+        })
     }
 
     // Makes each callback that is owed and due.
@@ -111,15 +140,35 @@ impl App {
         ensures devices { OnOk result (vec_len self.new.owed ≡ vec_len self.old.owed) }
         ensures ended { OnOk result (self.new.ended ≡ self.old.ended) }
         ensures work { IfOk result (λ worked. app_work self.new + cond worked 1 0 ≤ app_work self.old) }
+        ensures one { IfOk result (λ called. (v : Device) → devices.old ≡ v ∷ [] → v.standing ≡ 0
+            → self.old.owed.items ≡ true ∷ [] → Calls self.old self.new at v devices.new) }
     {
         let mut called = false;
-        for device in 0..devices.len() {
-            if self.owed[device] && devices[device].fire() {
-                self.list_call(device, at)?;
-                called = true;
-            }
+        for place in 0..devices.len() {
+            called |= self.call_one(place, &mut devices[place], at)?;
         }
         Ok(called)
+    }
+
+    // Makes the callback of a device where it is owed and due.
+    fn call_one(&mut self, place: usize, device: &mut Device, at: u64) -> Result<bool, NoMemory>
+        requires { place < vec_len self.old.owed }
+        ensures devices { OnOk result (vec_len self.new.owed ≡ vec_len self.old.owed) }
+        ensures rest { OnOk result (SameLines self.old self.new) }
+        ensures work { IfOk result (λ made. app_work self.new + cond made 1 0 ≤ app_work self.old) }
+        ensures due { OnOk result (slice_index_or self.old.owed.items place false ≡ true → device.old.standing ≡ 0
+            → (self.new.owed.items ≡ slice_set self.old.owed.items place false)
+            × (self.new.called ≡ self.old.called ++ record { at = at; device = place } ∷ [])
+            × (device.new ≡ called_back device.old)) }
+    {
+        if !self.owed[place] {
+            return Ok(false);
+        }
+        if !device.fire() {
+            return Ok(false);
+        }
+        self.list_call(place, at)?;
+        Ok(true)
     }
 
     // Lists a callback that was owed.
@@ -129,6 +178,9 @@ impl App {
         ensures devices { OnOk result (vec_len self.new.owed ≡ vec_len self.old.owed) }
         ensures ended { OnOk result (self.new.ended ≡ self.old.ended) }
         ensures work { OnOk result (app_work self.new + 1 ≤ app_work self.old) }
+        ensures owes { OnOk result (self.new.owed.items ≡ slice_set self.old.owed.items device false) }
+        ensures listed { OnOk result (self.new.called ≡ self.old.called ++ record { at = at; device = device } ∷ []) }
+        ensures rest { OnOk result (SameLines self.old self.new) }
     {
         self.owed[device] = false;
         self.called.push(Called {
@@ -140,7 +192,8 @@ impl App {
     // Where no callback is owed, sends a stop to each owner and asks to end.
     fn stop_owners(&mut self, acts: &mut Acts) -> Result<bool, NoMemory>
         requires { self.old.ended ≡ false }
-        ensures { IfOk result (λ worked. Advance self.old self.new acts.old acts.new (cond worked 1 0)) }
+        ensures advance { IfOk result (λ worked. Advance self.old self.new acts.old acts.new (cond worked 1 0)) }
+        ensures one { IfOk result (λ stopped. self.old.owed.items ≡ false ∷ [] → Stops self.old self.new acts.old acts.new) }
     {
         if self.owed.contains(&true) {
             return Ok(false);
@@ -161,7 +214,9 @@ impl App {
 
     /// What it listed.
     pub fn into_logs(self) -> (Items<Did>, Items<Called>)
-        ensures { list_all (λ c. nat_lt c.device (vec_len self.owed)) result.1 ≡ true }
+        ensures did { result.0 ≡ self.did }
+        ensures called { result.1 ≡ self.called }
+        ensures devices { list_all (λ c. nat_lt c.device (vec_len self.owed)) result.1 ≡ true }
     {
         (self.did, self.called)
     }

@@ -1,6 +1,6 @@
 //! A client: it does its ops in order, each when it may, gives back its channels and tells the app.
-ghost use Rattle.std.specs.Prelude.{◌≡◌, ◌<◌, ◌≤◌, ◌+◌, ◌++◌, ◌∷◌, [], length, vec_len, cond, true, false, None, Some, Option, OnOk, IfOk, IfSome, IsTrue, MatchOption, slice_get};
-ghost use Rattle.std.specs.List.{list_all};
+ghost use Rattle.std.specs.Prelude.{ℕ, List, map, ◌≡◌, ◌<◌, ◌≤◌, ◌+◌, ◌++◌, ◌∷◌, [], length, vec_len, cond, true, false, None, Some, Option, OnOk, IfOk, IfSome, IsTrue, MatchOption, slice_get};
+ghost use Rattle.std.specs.List.{All, list_all};
 ghost use Rattle.lw_base.specs.declared.message.What.{What};
 ghost use Rattle.lw_model.specs.Printable.{has_bytes};
 ghost use Rattle.lw_target.specs.Messages.{carries_bytes};
@@ -49,6 +49,12 @@ impl Client {
     ghost use Rattle.lw_target.specs.Client.{Answered, Progress};
     ghost use Rattle.lw_target.specs.Answers.{get_answer, put_answer, request_answer, admission_of};
     ghost use Rattle.lw_target.specs.Work.{client_work};
+    ghost use Rattle.lw_base.specs.declared.message.Tag.{Tag};
+    ghost use Rattle.lw_model.specs.declared.script.Script.{Script};
+    ghost use Rattle.lw_target.specs.declared.channel.Channel.{Channel};
+    ghost use Rattle.lw_target.specs.declared.device.Device.{Device};
+    ghost use Rattle.lw_target.specs.ClientLog.{IsOf, Follows, sent_so_far, was_refused};
+    ghost use Rattle.lw_target.specs.ClientCalls.{RanMessage, WentOn, Rests, AllAgree, ends_of};
 
     /// The client of thread `thread`, before its first op. The owner of device d is thread `first_owner` + d.
     pub fn new(
@@ -64,6 +70,16 @@ impl Client {
         requires serves { list_all (is_servable devices) of.ops ≡ true }
         ensures of { IfOk result (λ c. c.of ≡ of) }
         ensures channels { IfOk result (λ c. vec_len c.channels ≡ devices) }
+        ensures thread { IfOk result (λ c. (c.thread ≡ thread) × (c.first_owner ≡ first_owner)) }
+        ensures fresh { IfOk result (λ c. (c.next ≡ 0) × (c.closed ≡ false) × (c.done ≡ false)) }
+        ensures nothing { IfOk result (λ c. (c.replies ≡ []) × (c.unanswered.items ≡ [])) }
+        ensures none { IfOk result (λ c. (d : ℕ) (k : Channel) → slice_get c.channels.items d ≡ Some k
+            → (k.ordinal ≡ None) × (k.references ≡ 0) × (k.pending ≡ 0)) }
+        ensures follows { IfOk result (λ c. (s : Script) → IsOf s c → Follows s c []) }
+        ensures sends { IfOk result (λ c. (s : Script) → sent_so_far s c [] ≡ []) }
+        ensures refused { IfOk result (λ c. was_refused c [] ≡ false) }
+        ensures agree { IfOk result (λ c. (s : Script) (vs : List Device)
+            → All (λ v. (v.standing ≡ 0) × (v.given ≡ 0)) vs → AllAgree s c [] vs) }
     {
         let none = Channel {
             ordinal: None,
@@ -93,6 +109,11 @@ impl Client {
         ensures of { OnOk result (self.new.of ≡ self.old.of) }
         ensures channels { OnOk result (vec_len self.new.channels ≡ vec_len self.old.channels) }
         ensures work { OnOk result (client_work self.new ≡ client_work self.old) }
+        ensures ran { OnOk result (RanMessage self.old self.new mail) }
+        ensures agree { OnOk result ((s : Script) (ran : List Tag) → Follows s self.old ran
+            → AllAgree s self.old ran devices.old → AllAgree s self.new (ran ++ mail.tag ∷ []) devices.new) }
+        ensures ends { OnOk result (ends_of devices.new ≡ ends_of devices.old) }
+        ensures given { OnOk result (map (λ v. v.given) devices.new ≡ map (λ v. v.given) devices.old) }
     {
         match mail.tag.what {
             What::Reply { op } => self.take_reply(mail.tag.sender, op, mail.load),
@@ -149,7 +170,10 @@ impl Client {
         acts: &mut Acts,
     ) -> Result<bool, NoMemory>
         requires devices { length devices.old ≡ vec_len self.old.channels }
-        ensures { IfOk result (λ worked. Progress self.old self.new acts.old acts.new (cond worked 1 0)) }
+        ensures progress { IfOk result (λ worked. Progress self.old self.new acts.old acts.new (cond worked 1 0)) }
+        ensures went_on { OnOk result (WentOn self.old self.new acts.old acts.new devices.old devices.new) }
+        ensures rests { IfOk result (λ worked. worked ≡ false
+            → Rests self.old self.new acts.old acts.new devices.old devices.new) }
     {
         let mut worked = self.do_some(alloc, devices, acts)?;
         worked |= self.close_at_end(acts)?;
@@ -391,6 +415,8 @@ impl Client {
     /// The client of the script, and what it listed.
     pub fn into_logs(self) -> (ClientOf, Items<Did>, Items<Reply>)
         ensures of { result.0 ≡ self.of }
+        ensures did { result.1 ≡ self.did }
+        ensures listed { result.2 ≡ self.replies }
         ensures replies { list_all (λ r. has_bytes r.answer) result.2 ≡ true }
     {
         (self.of, self.did, self.replies)

@@ -1,8 +1,9 @@
 //! What waits to be run by one thread, and what it has run.
-ghost use Rattle.std.specs.Prelude.{◌≡◌, ◌<◌, [], ◌∷◌, ◌++◌, length, replicate, slice_index, OnOk, IfOk, MatchOption, IfSome, true};
+ghost use Rattle.std.specs.Prelude.{◌≡◌, ◌<◌, [], ◌∷◌, ◌++◌, length, replicate, slice_index, OnOk, OnErr, IfOk, MatchOption, IfSome, true};
 ghost use Rattle.std.specs.List.{list_all};
 ghost use Rattle.lw_model.specs.Printable.{has_a_line};
 ghost use Rattle.lw_target.specs.Messages.{IsPrintable};
+ghost use Rattle.lw_target.specs.WholeRun.{are_numbered};
 
 use crate::acts::Outgoing;
 use crate::mail::Mail;
@@ -18,7 +19,7 @@ use std::marker::Model;
 pub struct Post {
     waiting: VecDeque<Mail>,
     sent: Vec<u64>,
-    ran: Items<Tag>,
+    ran: Vec<Tag>,
 }
 
 impl Model for Post {
@@ -26,13 +27,15 @@ impl Model for Post {
     ghost use Rattle.std.specs.List.{All, list_all};
     ghost use Rattle.lw_model.specs.Printable.{has_a_line};
     ghost use Rattle.lw_target.specs.Messages.{Inbox, IsPrintable};
+    ghost use Rattle.lw_target.specs.Numbering.{IsNumbered};
 
     ghost Value = { Inbox };
 
-    ghost view = { λ p. record { waiting = p.waiting.items; sent = p.sent.items; ran = p.ran } };
+    ghost view = { λ p. record { waiting = p.waiting.items; sent = p.sent.items; ran = p.ran.items } };
 
     ghost invariant = { λ p. All (λ m. IsPrintable m.tag.what m.load) p.waiting.items
-        × (list_all (λ m. has_a_line m.what) p.ran ≡ true) };
+        × (list_all (λ m. has_a_line m.what) p.ran.items ≡ true)
+        × IsNumbered p.ran.items p.waiting.items p.sent.items };
 }
 
 impl Post {
@@ -43,7 +46,7 @@ impl Post {
         Ok(Post {
             waiting: VecDeque::new(alloc),
             sent: vec![in alloc; 0; senders]?,
-            ran: Items::new(alloc),
+            ran: Vec::new(alloc),
         })
     }
 
@@ -86,7 +89,7 @@ impl Post {
         self.ran.len() as u64
     }
 
-    /// The next message, which is listed as run.
+    /// The next message, which is listed as run. Without memory nothing changes.
     pub fn take(&mut self) -> Result<Option<Mail>, NoMemory>
         ensures first { IfOk result (λ o. MatchOption o (self.old.waiting ≡ [])
             (λ m. self.old.waiting ≡ m ∷ self.new.waiting)) }
@@ -94,22 +97,21 @@ impl Post {
         ensures ran { IfOk result (λ o. MatchOption o (self.new ≡ self.old)
             (λ m. self.new.ran ≡ self.old.ran ++ m.tag ∷ [])) }
         ensures senders { OnOk result (self.new.sent ≡ self.old.sent) }
+        ensures err { OnErr result (self.new ≡ self.old) }
     {
-        match self.waiting.pop_front() {
-            Some(mail) => {
-                self.ran.push(mail.tag)?;
-                Ok(Some(mail))
-            }
-            None => Ok(None),
-        }
+        let Some(next) = self.waiting.front() else {
+            return Ok(None);
+        };
+        self.ran.push(next.tag)?;
+        Ok(self.waiting.pop_front())
     }
 
     /// The tags of the messages that were run.
     pub fn into_ran(self) -> Items<Tag>
         ensures ran { result ≡ self.ran }
         ensures lines { list_all (λ m. has_a_line m.what) result ≡ true }
+        ensures numbered { are_numbered result ≡ true }
     {
-        let _ = &self.ran;
-        self.ran
+        Items::from_vec(self.ran)
     }
 }

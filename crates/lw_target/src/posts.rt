@@ -45,7 +45,7 @@ impl Posts {
     pub fn carry(&mut self, sender: u32, acts: &mut Acts) -> Result<(), NoMemory>
         requires sender { sender < 3 }
         requires senders { HasSenders self.old }
-        ensures carried { OnOk result (Carried self.old self.new acts.old.sends) }
+        ensures carried { OnOk result (Carried sender self.old self.new acts.old.sends) }
         ensures empty { OnOk result (acts.new.sends ≡ []) }
     {
         while let Some(out) = acts.next() {
@@ -58,7 +58,7 @@ impl Posts {
         requires sender { sender < 3 }
         requires senders { HasSenders self.old }
         requires printable { IsPrintable out.what out.load }
-        ensures { OnOk result (Carried self.old self.new (out ∷ [])) }
+        ensures { OnOk result (Carried sender self.old self.new (out ∷ [])) }
     {
         match out.to {
             APP => self.app.push(sender, out),

@@ -1,9 +1,15 @@
-use Rattle.std.proofs.Common.{◌≡◌, true, vec_len}
+use Rattle.std.proofs.Common.{ℕ, zero, suc, ◌≡◌, ◌∷◌, ◌++◌, List, [], None, true, vec_len}
+use Rattle.lw_model.specs.declared.record.Answer.TheVariants.{Began}
+use Rattle.lw_target.specs.declared.app.App.{App}
+use Rattle.lw_target.specs.declared.device.Device.{Device}
+use Rattle.lw_target.specs.App.{SameCalls, unregistered}
+use Rattle.lw_target.proofs.Ending.{begun}
 use Rattle.lw_target.proofs.app.App.begin.Given as goal
 
-abbrev pub invariant-loop-device : goal.invariant-loop-device
-invariant-loop-device l = record {
+abbrev pub invariant-loop-place : goal.invariant-loop-place
+invariant-loop-place l = record {
   owed : vec_len l.self.owed ≡ vec_len l.initial.self.owed;
-  ended : l.self.ended ≡ l.initial.self.ended;
   began : l.self.began ≡ true;
+  rest : SameCalls l.initial.self l.self;
+  one : (v : Device) → l.initial.devices ≡ v ∷ [] → v.shut_by ≡ None → begun l.place l.initial.self.did l.self l.at v l.devices;
 }

@@ -1,10 +1,17 @@
-use Rattle.std.proofs.Common.{◌≡◌, ◌≤◌, ◌+◌, cond, vec_len}
+use Rattle.std.proofs.Common.{ℕ, zero, suc, ◌≡◌, ◌≤◌, ◌+◌, ◌∷◌, ◌++◌, List, [], true, false, cond, vec_len}
+use Rattle.lw_target.specs.declared.app.App.{App}
+use Rattle.lw_target.specs.declared.device.Device.{Device}
+use Rattle.lw_target.specs.App.{SameLines, called_back}
 use Rattle.lw_target.specs.Work.{app_work}
+use Rattle.lw_target.proofs.Ending.{called}
 use Rattle.lw_target.proofs.app.App.call_back.Given as goal
 
-abbrev pub invariant-loop-device : goal.invariant-loop-device
-invariant-loop-device l = record {
+abbrev pub invariant-loop-place : goal.invariant-loop-place
+invariant-loop-place l = record {
   owed : vec_len l.self.owed ≡ vec_len l.initial.self.owed;
   ended : l.self.ended ≡ l.initial.self.ended;
   work : app_work l.self + cond l.called 1 0 ≤ app_work l.initial.self;
+  rest : SameLines l.initial.self l.self;
+  one : (v : Device) → l.initial.devices ≡ v ∷ [] → v.standing ≡ 0 → l.initial.self.owed.items ≡ true ∷ []
+      → called l.place l.initial.self.called l.self l.at v l.devices;
 }

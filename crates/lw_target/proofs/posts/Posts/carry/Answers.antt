@@ -1,8 +1,9 @@
-use Rattle.std.proofs.Common.{[], ◌∷◌, arith, refl, ◌∙◌, sym}
+use Rattle.std.proofs.Common.{[], ◌∷◌, arith, refl, sym}
 use Rattle.std.proofs.lemmas.List.Elements.{All-head, All-cons, All-nil, All-same, All-rest}
 use Rattle.lw_target.specs.declared.acts.Outgoing.{Outgoing}
 use Rattle.lw_target.specs.Messages.{FitsImage}
 use Rattle.lw_target.proofs.Carrying.{asked_first}
+use Rattle.lw_target.proofs.Letters.{going_on}
 use Rattle.lw_target.proofs.posts.Posts.carry.Goals as goal
 
 pub loop-out-preserved : goal.loop-out-preserved
@@ -12,7 +13,9 @@ loop-out-preserved c =
     let out = c.in-Some.out in
     let first = c.in-Some.ensures.first in
     record {
-      ran = d.ran ∙ i.ran;
+      app = going_on 0 c.args.sender _ _ _ _ _ _ out i.app d.app first;
+      client = going_on 1 c.args.sender _ _ _ _ _ _ out i.client d.client first;
+      owner = going_on 2 c.args.sender _ _ _ _ _ _ out i.owner d.owner first;
       senders = d.senders i.senders;
       work = omega (arith, d.work, i.work, asked_first _ _ out first, asked_first (out ∷ []) [] out refl);
       fits = λ blocks all go.

@@ -1,11 +1,14 @@
 use Rattle.std.proofs.Common.{ℕ, ◌≡◌, ◌+◌, length}
 use Rattle.lw_target.specs.Messages.{AllFit, AllMayGo, asked_work}
 use Rattle.lw_target.specs.Turns.{HasSenders, posts_work}
+use Rattle.lw_target.proofs.Letters.{Going}
 use Rattle.lw_target.proofs.posts.Posts.carry.Given as goal
 
 abbrev pub invariant-loop-out : goal.invariant-loop-out
 invariant-loop-out l = record {
-  ran : l.self.owner.ran ≡ l.initial.self.owner.ran;
+  app : Going 0 l.sender l.initial.self.app l.self.app l.initial.acts.sends l.acts.sends;
+  client : Going 1 l.sender l.initial.self.client l.self.client l.initial.acts.sends l.acts.sends;
+  owner : Going 2 l.sender l.initial.self.owner l.self.owner l.initial.acts.sends l.acts.sends;
   senders : HasSenders l.self;
   work : posts_work l.self + asked_work l.acts.sends ≡ posts_work l.initial.self + asked_work l.initial.acts.sends;
   fits : (blocks : ℕ) → AllFit blocks l.initial.self.owner.waiting → AllMayGo blocks l.initial.acts.sends

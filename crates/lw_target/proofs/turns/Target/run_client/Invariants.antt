@@ -1,6 +1,5 @@
-use Rattle.std.proofs.Common.{cond}
 use Rattle.lw_target.specs.Turns.{Turned}
 use Rattle.lw_target.proofs.turns.Target.run_client.Given as goal
 
 abbrev pub invariant-loop : goal.invariant-loop
-invariant-loop l = Turned l.initial.self l.self (cond l.worked 1 0)
+invariant-loop l = Turned l.fn.self l.self 1
