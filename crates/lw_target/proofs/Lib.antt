@@ -1,6 +1,8 @@
 mod Mails
 mod Answering
+mod Holdings
 mod Steps
+mod Handling
 mod Carrying
 mod Turning
 mod Accepted
