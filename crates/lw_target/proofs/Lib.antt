@@ -3,6 +3,10 @@ mod Answering
 mod Holdings
 mod Steps
 mod Handling
+mod LogGrowth
+mod Kept
+mod Places
+mod RanMessages
 mod Carrying
 mod Turning
 mod Accepted

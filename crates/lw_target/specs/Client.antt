@@ -1,12 +1,15 @@
 -- What a client does and asks for.
-use Rattle.std.specs.Prelude.{ℕ, ◌≡◌, ◌+◌, ◌≤◌, vec_len, cond, [], ◌∷◌, ◌++◌, slice_set, map, true}
+use Rattle.std.specs.Prelude.{ℕ, ◌≡◌, ◌+◌, ◌-◌, ◌≤◌, vec_len, option_to_list, cond, [], ◌∷◌, ◌++◌, slice_set, map, true}
 use Rattle.lw_model.specs.declared.script.Op.{Op}
 use Rattle.lw_model.specs.declared.record.Answer.{Answer}
 use Rattle.lw_model.specs.declared.record.Answer.TheVariants as answer
 use Rattle.lw_model.specs.Holding.{is_sent}
 use Rattle.lw_target.specs.declared.channel.Channel.{Channel}
 use Rattle.lw_target.specs.declared.client.Client.{Client}
-use Rattle.lw_target.specs.Effects.{channel_after, standing_after, sends_after, request_of, gave_back, puts_of}
+use Rattle.lw_target.specs.declared.mail.Load.{Load}
+use Rattle.lw_base.specs.declared.message.What.TheVariants as what
+use Rattle.lw_target.specs.ClientCalls.{reply_carried, still_unanswered}
+use Rattle.lw_target.specs.Effects.{after_put, is_destroyed, channel_after, standing_after, sends_after, request_of, gave_back, puts_of}
 use Rattle.lw_target.specs.Messages.{Asked, asked_work}
 use Rattle.lw_target.specs.Ops.{AllOfOps}
 use Rattle.lw_target.specs.Work.{client_work}
@@ -69,6 +72,34 @@ pub record Closing (old new : Client) (before after : Asked) : Type 0 where
   pub standing : new.standing ≡ old.standing
   pub unanswered : new.unanswered.items ≡ old.unanswered.items
   pub acts : after ≡ record before { sends = before.sends ++ puts_of old.thread 0 old.channels.items }
+
+-- the client ran the reply to op k
+pub record Received (old new : Client) (k : ℕ) (carried : Load) : Type 0 where
+  pub thread : new.thread ≡ old.thread
+  pub first_owner : new.first_owner ≡ old.first_owner
+  pub of : new.of ≡ old.of
+  pub closed : new.closed ≡ old.closed
+  pub done : new.done ≡ old.done
+  pub next : new.next ≡ old.next
+  pub did : new.did ≡ old.did
+  pub channels : new.channels ≡ old.channels
+  pub standing : new.standing ≡ old.standing
+  pub replies : new.replies ≡ old.replies ++ option_to_list (reply_carried (what.Reply k) carried)
+  pub unanswered : new.unanswered.items ≡ still_unanswered (what.Reply k) old.unanswered.items
+
+-- the client ran its message to itself behind a put of device d, of which it kept k
+pub record TookPut (old new : Client) (d : ℕ) (k : Channel) : Type 0 where
+  pub thread : new.thread ≡ old.thread
+  pub first_owner : new.first_owner ≡ old.first_owner
+  pub of : new.of ≡ old.of
+  pub closed : new.closed ≡ old.closed
+  pub done : new.done ≡ old.done
+  pub next : new.next ≡ old.next
+  pub did : new.did ≡ old.did
+  pub replies : new.replies ≡ old.replies
+  pub unanswered : new.unanswered ≡ old.unanswered
+  pub channels : new.channels.items ≡ slice_set old.channels.items d (after_put k)
+  pub standing : new.standing ≡ old.standing - cond (is_destroyed k) 1 0
 
 -- the client went on, and did at least so much of its work
 pub record Progress (old new : Client) (before after : Asked) (least : ℕ) : Type 0 where

@@ -1,5 +1,5 @@
 -- What an answer does to a channel, to the device and to what was sent.
-use Rattle.std.specs.Prelude.{ℕ, ◌+◌, ◌-◌, ◌==◌, ◌≤◌, nat_lt, ◌&&◌, min, cond, List, [], ◌∷◌, Some, None}
+use Rattle.std.specs.Prelude.{ℕ, ◌+◌, ◌-◌, ◌==◌, ◌≤◌, nat_lt, ◌&&◌, min, cond, Bool, is_some, is_none, slice_set, List, [], ◌∷◌, Some, None}
 use Rattle.std.specs.List.{All}
 use Rattle.lw_base.specs.declared.message.What.TheVariants as what
 use Rattle.lw_model.specs.declared.record.Answer.{Answer}
@@ -29,6 +29,13 @@ channel_after _ k = k
 -- a message behind a put: the last one, with no reference left, destroys the channel
 abbrev pub after_put : Channel → Channel
 after_put k = record { ordinal = cond (k.pending == 1 && k.references == 0) None k.ordinal; references = k.references; pending = k.pending - 1 }
+
+-- such a message destroys the channel
+abbrev pub is_destroyed : Channel → Bool
+is_destroyed k = is_none (after_put k).ordinal && is_some k.ordinal
+
+abbrev pub devices_after : List Device → ℕ → Channel → Device → List Device
+devices_after devices d k v = cond (is_destroyed k) (slice_set devices d (record v { standing = v.standing - 1 })) devices
 
 -- all references given back at once
 abbrev pub gave_back : Channel → Channel

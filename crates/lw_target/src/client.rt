@@ -82,55 +82,6 @@ impl Client {
         })
     }
 
-    /// Runs a message: a reply is listed, and behind the last put of a channel the channel is given back.
-    pub fn run(&mut self, mail: Mail, devices: &mut [Device]) -> Result<(), NoMemory>
-        requires devices { length devices.old ≡ vec_len self.old.channels }
-        requires reply { carries_bytes mail.load ≡ true }
-        ensures of { OnOk result (self.new.of ≡ self.old.of) }
-        ensures channels { OnOk result (vec_len self.new.channels ≡ vec_len self.old.channels) }
-        ensures work { OnOk result (client_work self.new ≡ client_work self.old) }
-    {
-        match mail.tag.what {
-            What::Reply { op } => self.take_reply(op, mail.load),
-            What::PutSelf { device } => {
-                self.put_message(device as usize, devices);
-                Ok(())
-            }
-            _ => Ok(()),
-        }
-    }
-
-    fn take_reply(&mut self, op: u32, load: Load) -> Result<(), NoMemory>
-        requires { carries_bytes load ≡ true }
-        ensures of { OnOk result (self.new.of ≡ self.old.of) }
-        ensures channels { OnOk result (vec_len self.new.channels ≡ vec_len self.old.channels) }
-        ensures work { OnOk result (client_work self.new ≡ client_work self.old) }
-    {
-        self.unanswered.retain(|&sent| sent != op);
-        match load {
-            Load::Replied(answer) => self.replies.push(Reply { op, answer }),
-            _ => Ok(()),
-        }
-    }
-
-    // Destroys a channel without references, unless another such message is pending.
-    fn put_message(&mut self, device: usize, devices: &mut [Device])
-        requires { length devices.old ≡ vec_len self.old.channels }
-        ensures of { self.new.of ≡ self.old.of }
-        ensures channels { vec_len self.new.channels ≡ vec_len self.old.channels }
-        ensures work { client_work self.new ≡ client_work self.old }
-    {
-        if device >= self.channels.len() {
-            return;
-        }
-        let channel = self.channels[device].after_put();
-        if channel.ordinal.is_none() && self.channels[device].ordinal.is_some() {
-            self.standing = self.standing.saturating_sub(1);
-            devices[device].release();
-        }
-        self.channels[device] = channel;
-    }
-
     /// Does up to eight of its next ops, stopping at the first that has to wait; behind the last one, with no request
     /// unanswered, gives back what it holds; and once no channel stands tells the app and asks to end. Answers whether
     /// it listed or sent anything.
