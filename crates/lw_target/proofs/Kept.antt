@@ -1,6 +1,6 @@
 -- What a client keeps of a device, one step on.
 use Rattle.std.proofs.Common.{ℕ, zero, suc, ◌≡◌, ◌+◌, ◌-◌, ◌≤◌, ◌<◌, ◌≢◌, Bool, true, false, ◌&&◌, List, [], ◌∷◌, length, arith, refl, sym, ap, ap₂, ◌∙◌, nat_lt, subst, cond, IsTrue}
-use Rattle.std.specs.Prelude.{not, ◌||◌, Option, Some, None, is_some, count_by, ◌==◌}
+use Rattle.std.specs.Prelude.{filter, not, ◌||◌, Option, Some, None, is_some, count_by, ◌==◌}
 use Rattle.std.specs.List.{list_any}
 use Rattle.std.proofs.lemmas.Bool.{eqb-true, eq-eqb, ne_eqb, eqb-false, ltb-true, ltb-false}
 use Rattle.std.proofs.lemmas.List.Sums.{sum_by-cons}
@@ -12,7 +12,10 @@ use Rattle.lw_model.specs.declared.record.Did.{Did}
 use Rattle.lw_model.specs.declared.record.Answer.{Answer}
 use Rattle.lw_model.specs.declared.record.Answer.TheVariants as answer
 use Rattle.lw_model.specs.Threads.{is_on}
-use Rattle.lw_model.specs.Holding.{says, always, is_closed, is_deferred, is_putself, gains, loses, defers, runs, destroys, references, pending, held, ordinal_given}
+use Rattle.lw_model.specs.Answers.{unanswered, unanswered_on}
+use Rattle.lw_base.specs.declared.message.What.{What}
+use Rattle.lw_base.specs.declared.message.What.TheVariants as what
+use Rattle.lw_model.specs.Holding.{says, always, is_closed, is_sent, is_deferred, is_putself, gains, loses, defers, runs, destroys, references, pending, held, ordinal_given}
 use Rattle.lw_target.specs.declared.channel.Channel.{Channel}
 use Rattle.lw_target.specs.Effects.{channel_after, after_put, gave_back}
 use Rattle.lw_target.specs.ClientLog.{KeepsDevice}
@@ -52,6 +55,21 @@ stood true k h e = at (k.pending == 1) (k.references == 0) refl refl
     at true false ep er = h (omega (arith, e))
     at false r ep er = h (omega (arith, e))
 
+fewer : (p q : ℕ → Bool) (us : List ℕ) → length (filter p us) ≡ 0 → length (filter p (filter q us)) ≡ 0
+fewer p q [] e = refl
+fewer p q (u ∷ us) e = at (p u) (q u) refl (fewer p q us) e
+  where
+    at : (a b : Bool) → p u ≡ a → (length (filter p us) ≡ 0 → length (filter p (filter q us)) ≡ 0)
+        → length (cond a (u ∷ filter p us) (filter p us)) ≡ 0 → length (filter p (cond b (u ∷ filter q us) (filter q us))) ≡ 0
+    at true b pa rest none = absurd (omega (arith, none))
+    at false true pa rest none = ap (λ (c : Bool). length (cond c (u ∷ filter p (filter q us)) (filter p (filter q us)))) pa ∙ rest none
+    at false false pa rest none = rest none
+
+fewer_left : (p : ℕ → Bool) (w : What) (us : List ℕ) → length (filter p us) ≡ 0
+    → length (filter p (elim w as (λ x. List ℕ) [ what.Reply k ↦ filter (λ j. not (j == k)) us | _ ↦ us ])) ≡ 0
+fewer_left p (what.Reply k) us e = fewer p (λ j. not (j == k)) us e
+fewer_left p _ us e = e
+
 pub keeps_ran : (s : Script) (t i d : ℕ) (past : List Step) (m : Tag) (k : Channel) → KeepsDevice s t past d k
     → KeepsDevice s t (step.Ran i m ∷ past) d (after_message (is_putself d m.what) k)
 keeps_ran s t i d past m k h =
@@ -64,6 +82,7 @@ keeps_ran s t i d past m k h =
       standing = still b k h.standing;
       stands = stood b k h.stands;
       balance = h.balance;
+      waited = λ e. fewer_left (is_on s t d) m.what (unanswered past) (h.waited (same_references b k ∙ e));
     }
 
 -- ---- what a step counts
@@ -80,7 +99,7 @@ or_false : (b : Bool) → (b || false) ≡ b
 or_false true = refl
 or_false false = refl
 
-and_false : (b : Bool) → (b && false) ≡ false
+pub and_false : (b : Bool) → (b && false) ≡ false
 and_false true = refl
 and_false false = refl
 
@@ -95,6 +114,10 @@ ordinal_off b _ off = refl
 refs_open : (on : ℕ → Bool) (past : List Step) → list_any (says always is_closed) past ≡ false
     → references on past ≡ count_by (says on gains) past - count_by (says on loses) past
 refs_open on past before = ap (λ (b : Bool). cond b 0 (count_by (says on gains) past - count_by (says on loses) past)) before
+
+filter_off : (p : ℕ → Bool) (u : ℕ) (b : Bool) (us : List ℕ) → p u ≡ false → filter p (cond b (u ∷ us) us) ≡ filter p us
+filter_off p u true us off = ap (λ (c : Bool). cond c (u ∷ filter p us) (filter p us)) off
+filter_off p u false us off = refl
 
 -- ---- an op that was answered, of another device
 
@@ -114,6 +137,7 @@ keeps_other s t i d past x k off going h =
       standing = h.standing;
       stands = h.stands;
       balance = omega (arith, h.balance, count_none on gains past i x (no gains), count_none on loses past i x (no loses));
+      waited = λ e. ap length (filter_off on x.op (is_sent x.answer) (unanswered past) off) ∙ h.waited e;
     }
 
 -- ---- an op of this device
@@ -123,6 +147,7 @@ abbrev pub IsApt : Answer → Channel → Type 0
 IsApt (answer.Again n) k = k.ordinal ≡ Some n
 IsApt answer.Counted k = 1 < k.references
 IsApt answer.Deferred k = k.references ≡ 1
+IsApt answer.Sent k = 0 < k.references
 IsApt _ k = Unit {0}
 
 refs_after : (a : Answer) (k : Channel) → (channel_after a k).references ≡ k.references + cond (gains a) 1 0 - cond (loses a) 1 0
@@ -168,10 +193,19 @@ balanced answer.Counted k g l apt e h = omega (arith, h, e, apt)
 balanced answer.Deferred k g l apt e h = omega (arith, h, e, apt)
 balanced _ k g l apt e h = omega (arith, h)
 
+waited_on : (p : ℕ → Bool) (a : Answer) (k : Channel) (u : ℕ) (us : List ℕ) → IsApt a k → (loses a ≡ true → length (filter p us) ≡ 0)
+    → (k.references ≡ 0 → length (filter p us) ≡ 0) → (channel_after a k).references ≡ 0 → length (filter p (cond (is_sent a) (u ∷ us) us)) ≡ 0
+waited_on p (answer.Given n) k u us apt gone h e = absurd (omega (arith, e))
+waited_on p (answer.Again n) k u us apt gone h e = absurd (omega (arith, e))
+waited_on p answer.Counted k u us apt gone h e = gone refl
+waited_on p answer.Deferred k u us apt gone h e = gone refl
+waited_on p answer.Sent k u us apt gone h e = absurd (omega (arith, apt, e))
+waited_on p _ k u us apt gone h e = h e
+
 pub keeps_op : (s : Script) (t i d : ℕ) (past : List Step) (x : Did) (k : Channel) → is_on s t d x.op ≡ true → is_closed x.answer ≡ false
-    → list_any (says always is_closed) past ≡ false → IsApt x.answer k
+    → list_any (says always is_closed) past ≡ false → IsApt x.answer k → (loses x.answer ≡ true → length (unanswered_on s t d past) ≡ 0)
     → KeepsDevice s t past d k → KeepsDevice s t (step.Did i x ∷ past) d (channel_after x.answer k)
-keeps_op s t i d past x k here going before apt h =
+keeps_op s t i d past x k here going before apt gone h =
     let on = is_on s t d in
     let closed : (true && is_closed x.answer) ≡ false = going in
     let after : list_any (says always is_closed) (step.Did i x ∷ past) ≡ false = ap (λ (b : Bool). b || list_any (says always is_closed) past) closed ∙ before in
@@ -186,13 +220,14 @@ keeps_op s t i d past x k here going before apt h =
       standing = stands_on x.answer k apt h.standing;
       stands = holds_on x.answer k apt h.stands;
       balance = let b = balanced x.answer k (count_by (says on gains) past) (count_by (says on loses) past) apt old h.balance in omega (arith, more, less, b);
+      waited = waited_on on x.answer k x.op (unanswered past) apt gone h.waited;
     }
 
 -- ---- the close
 
-pub keeps_closed : (s : Script) (t i d at op : ℕ) (past : List Step) (k : Channel) → KeepsDevice s t past d k
+pub keeps_closed : (s : Script) (t i d at op : ℕ) (past : List Step) (k : Channel) → length (unanswered_on s t d past) ≡ 0 → KeepsDevice s t past d k
     → KeepsDevice s t (step.Did i (record { at = at; op = op; answer = answer.Closed }) ∷ past) d (gave_back k)
-keeps_closed s t i d at op past k h =
+keeps_closed s t i d at op past k none h =
     let on = is_on s t d in
     let x : Did = record { at = at; op = op; answer = answer.Closed } in
     let g = nat_lt 0 k.references in
@@ -203,6 +238,7 @@ keeps_closed s t i d at op past k h =
       standing = λ some. gave g refl (h.standing some);
       stands = λ more. h.stands (took g refl more);
       balance = omega (arith, h.balance, count_none on gains past i x (and_false (on op)), count_none on loses past i x (and_false (on op)));
+      waited = λ e. none;
     }
   where
     gave : (b : Bool) → nat_lt 0 k.references ≡ b → 0 < k.references + k.pending → 0 < 0 + (k.pending + cond b 1 0)

@@ -7,6 +7,8 @@ mod LogGrowth
 mod Kept
 mod Places
 mod RanMessages
+mod Listing
+mod Doing
 mod Carrying
 mod Turning
 mod Accepted

@@ -15,7 +15,7 @@ use Rattle.lw_model.specs.declared.record.RoleKind.TheVariants as role
 use Rattle.lw_model.specs.Threads.{is_client, owner_of, ops_of, depth_of, op_at, image_at, is_on}
 use Rattle.lw_model.specs.OwnOrder.{own_order, with_past}
 use Rattle.lw_model.specs.Holding.{is_started, says, always, is_closed, gains, loses, ordinal_given, references, pending, held}
-use Rattle.lw_model.specs.Answers.{unanswered, answer_fits, depth_fits, at_fits}
+use Rattle.lw_model.specs.Answers.{unanswered, unanswered_on, answer_fits, depth_fits, at_fits}
 use Rattle.lw_model.specs.Devices.{is_refusal}
 use Rattle.lw_model.specs.Sent.{referred}
 use Rattle.lw_target.specs.declared.client.Client.{Client}
@@ -83,6 +83,8 @@ pub record KeepsDevice (s : Script) (t : ℕ) (past : List Step) (d : ℕ) (k : 
   pub stands : 0 < k.references + k.pending → IsTrue (is_some k.ordinal)
   -- no more references were given back than were taken
   pub balance : count_by (says (is_on s t d) loses) past ≤ count_by (says (is_on s t d) gains) past
+  -- the last reference is kept as long as a request on it is unanswered
+  pub waited : k.references ≡ 0 → length (unanswered_on s t d past) ≡ 0
 
 -- what the client keeps is what its steps say, and each step fits those before it
 pub record Follows (s : Script) (c : Client) (ran : List Tag) : Type 0 where
