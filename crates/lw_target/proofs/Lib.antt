@@ -9,6 +9,7 @@ mod Places
 mod RanMessages
 mod Listing
 mod Doing
+mod Ending
 mod Carrying
 mod Turning
 mod Accepted

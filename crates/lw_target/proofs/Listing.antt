@@ -254,7 +254,7 @@ still_going old more closed = at old.closed refl
     at true e = absurd (omega (arith, more, closed e))
     at false e = e
 
-no_longer : (b c : Bool) → b ≡ false → (c ≡ true → b ≡ true) → c ≡ false
+pub no_longer : (b c : Bool) → b ≡ false → (c ≡ true → b ≡ true) → c ≡ false
 no_longer b true e h = sym (h refl) ∙ e
 no_longer b false e h = refl
 
@@ -352,7 +352,7 @@ and_true : (b : Bool) → (b && true) ≡ b
 and_true true = refl
 and_true false = refl
 
-five : {a b c d e : Bool} → a ≡ true → b ≡ true → c ≡ true → d ≡ true → e ≡ true → (a && b && c && d && e) ≡ true
+pub five : {a b c d e : Bool} → a ≡ true → b ≡ true → c ≡ true → d ≡ true → e ≡ true → (a && b && c && d && e) ≡ true
 five ea eb ec ed ee = rw (ea, eb, ec, ed, ee) refl
 
 pub op_follows : (s : Script) (old new : Client) (ran : List Tag) (before after : Asked) (devices devices' : List Device) → OpDone old new before after devices devices'

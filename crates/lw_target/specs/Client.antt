@@ -7,6 +7,7 @@ use Rattle.lw_model.specs.Holding.{is_sent}
 use Rattle.lw_target.specs.declared.channel.Channel.{Channel}
 use Rattle.lw_target.specs.declared.client.Client.{Client}
 use Rattle.lw_target.specs.declared.mail.Load.{Load}
+use Rattle.lw_target.specs.declared.mail.Load.TheVariants as load
 use Rattle.lw_base.specs.declared.message.What.TheVariants as what
 use Rattle.lw_target.specs.ClientCalls.{reply_carried, still_unanswered}
 use Rattle.lw_target.specs.Effects.{after_put, is_destroyed, channel_after, standing_after, sends_after, request_of, gave_back, puts_of}
@@ -72,6 +73,21 @@ pub record Closing (old new : Client) (before after : Asked) : Type 0 where
   pub standing : new.standing ≡ old.standing
   pub unanswered : new.unanswered.items ≡ old.unanswered.items
   pub acts : after ≡ record before { sends = before.sends ++ puts_of old.thread 0 old.channels.items }
+
+-- the client told the app that it is done
+pub record Telling (old new : Client) (before after : Asked) : Type 0 where
+  pub thread : new.thread ≡ old.thread
+  pub first_owner : new.first_owner ≡ old.first_owner
+  pub of : new.of ≡ old.of
+  pub next : new.next ≡ old.next
+  pub channels : new.channels ≡ old.channels
+  pub standing : new.standing ≡ old.standing
+  pub unanswered : new.unanswered ≡ old.unanswered
+  pub closed : new.closed ≡ old.closed
+  pub done : new.done ≡ true
+  pub did : new.did ≡ old.did
+  pub replies : new.replies ≡ old.replies
+  pub acts : after ≡ record before { sends = before.sends ++ record { to = 0; what = what.Done; load = load.Nothing } ∷ [] }
 
 -- the client ran the reply to op k
 pub record Received (old new : Client) (k : ℕ) (carried : Load) : Type 0 where
