@@ -10,6 +10,7 @@ mod RanMessages
 mod Listing
 mod Doing
 mod Ending
+mod Ticking
 mod Carrying
 mod Turning
 mod Accepted

@@ -266,7 +266,7 @@ filter_none p (x ∷ xs) e = at (p x) (filter_none p xs) e
     at true rest none = let wrong : true ≡ false = none in cc
     at false rest none = rest none
 
-any_reverse : {X : Type 0} (p : X → Bool) (xs : List X) → list_any p (reverse xs) ≡ false → list_any p xs ≡ false
+pub any_reverse : {X : Type 0} (p : X → Bool) (xs : List X) → list_any p (reverse xs) ≡ false → list_any p xs ≡ false
 any_reverse p [] e = refl
 any_reverse p (x ∷ xs) e = at (list_any p (reverse xs)) (p x) refl refl (sym (list_any-append p (reverse xs) (x ∷ [])) ∙ ap (list_any p) (sym (reverse_cons x xs)) ∙ e) (any_reverse p xs)
   where

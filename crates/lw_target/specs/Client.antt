@@ -1,5 +1,6 @@
 -- What a client does and asks for.
-use Rattle.std.specs.Prelude.{ℕ, ◌≡◌, ◌+◌, ◌-◌, ◌≤◌, vec_len, option_to_list, cond, [], ◌∷◌, ◌++◌, slice_set, map, true}
+use Rattle.std.specs.Prelude.{ℕ, ◌≡◌, ◌+◌, ◌-◌, ◌≤◌, vec_len, option_to_list, cond, [], ◌∷◌, ◌++◌, slice_set, map, true, false, None}
+use Rattle.std.specs.List.{All}
 use Rattle.lw_model.specs.declared.script.Op.{Op}
 use Rattle.lw_model.specs.declared.record.Answer.{Answer}
 use Rattle.lw_model.specs.declared.record.Answer.TheVariants as answer
@@ -14,6 +15,17 @@ use Rattle.lw_target.specs.Effects.{after_put, is_destroyed, channel_after, stan
 use Rattle.lw_target.specs.Messages.{Asked, asked_work}
 use Rattle.lw_target.specs.Ops.{AllOfOps}
 use Rattle.lw_target.specs.Work.{client_work}
+
+-- a client that has run and listed nothing, and holds nothing
+pub record IsFresh (c : Client) : Type 0 where
+  pub next : c.next ≡ 0
+  pub channels : All (λ k. k ≡ record { ordinal = None; references = 0; pending = 0 }) c.channels.items
+  pub standing : c.standing ≡ 0
+  pub unanswered : c.unanswered.items ≡ []
+  pub closed : c.closed ≡ false
+  pub done : c.done ≡ false
+  pub did : c.did ≡ []
+  pub replies : c.replies ≡ []
 
 -- the answer of the next op was listed and counted; the op is on device d, of which the client kept k
 pub record Listed (old new : Client) (at d : ℕ) (k : Channel) (a : Answer) : Type 0 where

@@ -1,5 +1,5 @@
 //! A client: it does its ops in order, each when it may, gives back its channels and tells the app.
-ghost use Rattle.std.specs.Prelude.{◌≡◌, ◌<◌, ◌≤◌, ◌+◌, ◌-◌, ◌++◌, ◌∷◌, [], length, vec_len, cond, map, filter, not, ◌==◌, true, false, None, Some, Option, OnOk, IfOk, IfSome, IsTrue, MatchOption, slice_get};
+ghost use Rattle.std.specs.Prelude.{List, ◌≡◌, ◌<◌, ◌≤◌, ◌+◌, ◌-◌, ◌++◌, ◌∷◌, [], length, vec_len, cond, map, filter, not, ◌==◌, true, false, None, Some, Option, OnOk, IfOk, IfSome, IsTrue, MatchOption, slice_get};
 ghost use Rattle.std.specs.List.{list_all};
 ghost use Rattle.lw_base.specs.declared.message.What.{What};
 ghost use Rattle.lw_model.specs.Printable.{has_bytes};
@@ -48,7 +48,9 @@ pub struct Client {
 }
 
 impl Client {
-    ghost use Rattle.lw_target.specs.Client.{Handled, Listed, Asking, Closing, Progress};
+    ghost use Rattle.lw_target.specs.Client.{Handled, IsFresh, Listed, Asking, Closing, Telling, Progress};
+    ghost use Rattle.lw_target.specs.ClientCalls.{WentOn};
+    ghost use Rattle.lw_target.specs.declared.device.Device.{Device};
     ghost use Rattle.lw_target.specs.Answers.{answer_to};
     ghost use Rattle.lw_target.specs.Work.{client_work};
 
@@ -66,6 +68,9 @@ impl Client {
         requires serves { list_all (is_servable devices) of.ops ≡ true }
         ensures of { IfOk result (λ c. c.of ≡ of) }
         ensures channels { IfOk result (λ c. vec_len c.channels ≡ devices) }
+        ensures thread { IfOk result (λ c. c.thread ≡ thread) }
+        ensures first_owner { IfOk result (λ c. c.first_owner ≡ first_owner) }
+        ensures fresh { IfOk result IsFresh }
     {
         Ok(Client {
             thread,
@@ -92,7 +97,8 @@ impl Client {
         acts: &mut Acts,
     ) -> Result<bool, NoMemory>
         requires devices { length devices.old ≡ vec_len self.old.channels }
-        ensures { IfOk result (λ worked. Progress self.old self.new acts.old acts.new (cond worked 1 0)) }
+        ensures progress { IfOk result (λ worked. Progress self.old self.new acts.old acts.new (cond worked 1 0)) }
+        ensures went_on { OnOk result (WentOn self.old self.new acts.old acts.new devices.old devices.new) }
     {
         let mut worked = self.do_some(alloc, devices, acts)?;
         worked |= self.close_at_end(acts)?;
@@ -110,6 +116,7 @@ impl Client {
         requires devices { length devices.old ≡ vec_len self.old.channels }
         ensures progress { IfOk result (λ worked. Progress self.old self.new acts.old acts.new (cond worked 1 0)) }
         ensures most { OnOk result (self.new.next ≤ self.old.next + 8) }
+        ensures went_on { OnOk result (WentOn self.old self.new acts.old acts.new devices.old devices.new) }
     {
         let mut worked = false;
         for _ in 0..OPS_OF_A_TICK {
@@ -131,6 +138,7 @@ impl Client {
         requires devices { length devices.old ≡ vec_len self.old.channels }
         ensures progress { IfOk result (λ worked. Progress self.old self.new acts.old acts.new (cond worked 1 0)) }
         ensures one { IfOk result (λ worked. self.new.next ≡ self.old.next + cond worked 1 0) }
+        ensures went_on { OnOk result (WentOn self.old self.new acts.old acts.new devices.old devices.new) }
     {
         if self.next == self.of.ops.len() {
             return Ok(false);
@@ -215,6 +223,7 @@ impl Client {
         ensures progress { IfOk result (λ worked. Progress self.old self.new acts.old acts.new (cond worked 1 0)) }
         ensures at_end { IfOk result (λ worked. IsTrue worked → (self.old.next ≡ length self.old.of.ops)
             × (vec_len self.old.unanswered ≡ 0)) }
+        ensures went_on { OnOk result ((devices : List Device) → WentOn self.old self.new acts.old acts.new devices devices) }
     {
         if self.closed || self.next < self.of.ops.len() || self.unanswered.len() > 0 {
             return Ok(false);
@@ -257,13 +266,21 @@ impl Client {
     fn tell_app(&mut self, acts: &mut Acts) -> Result<bool, NoMemory>
         ensures progress { IfOk result (λ worked. Progress self.old self.new acts.old acts.new (cond worked 1 0)) }
         ensures told { IfOk result (λ worked. IsTrue worked → IsTrue self.old.closed × (self.old.standing ≡ 0)) }
+        ensures went_on { OnOk result ((devices : List Device) → WentOn self.old self.new acts.old acts.new devices devices) }
     {
         if self.done || !self.closed || self.standing > 0 {
             return Ok(false);
         }
+        self.tell(acts)?;
+        Ok(true)
+    }
+
+    fn tell(&mut self, acts: &mut Acts) -> Result<(), NoMemory>
+        ensures { OnOk result (Telling self.old self.new acts.old acts.new) }
+    {
         acts.send(APP, What::Done, Load::Nothing)?;
         self.done = true;
-        Ok(true)
+        Ok(())
     }
 
     /// Whether it has told the app and asked to end.

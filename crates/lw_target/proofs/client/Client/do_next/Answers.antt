@@ -1,8 +1,10 @@
-use Rattle.std.proofs.Common.{arith, ap, sym, ◌∙◌, get_or, List}
+use Rattle.std.proofs.Common.{arith, ap, sym, ◌∙◌, get_or, List, refl}
 use Rattle.std.specs.Prelude.{slice_set, slice_get}
 use Rattle.std.proofs.lemmas.Option.{IfSome_then}
 use Rattle.lw_model.specs.declared.script.Op.{Op}
 use Rattle.lw_target.specs.declared.device.Device.{Device}
+use Rattle.lw_target.proofs.Doing.{op_went_on}
+use Rattle.lw_target.proofs.Ticking.{went_none}
 use Rattle.lw_target.proofs.Handling.{OpDone, calls_did, op_progress}
 use Rattle.lw_target.proofs.client.Client.do_next.Goals as goal
 
@@ -42,3 +44,16 @@ returns-clause-progress c = op_progress _ _ _ _ _ _ (done c)
 
 pub returns-clause-one : goal.returns-clause-one
 returns-clause-one c = (done c).handled.next
+
+pub returns-then-self-len-clause-went_on : goal.returns-then-self-len-clause-went_on
+returns-then-self-len-clause-went_on c = went_none _ _ _ _ (record {
+  thread = refl; first_owner = refl; of = refl; next = refl; channels = refl; standing = refl; unanswered = refl; closed = refl; done = refl; did = refl; replies = refl;
+})
+
+pub returns-in_default-clause-went_on : goal.returns-in_default-clause-went_on
+returns-in_default-clause-went_on c = went_none _ _ _ _ (record {
+  thread = refl; first_owner = refl; of = refl; next = refl; channels = refl; standing = refl; unanswered = refl; closed = refl; done = refl; did = refl; replies = refl;
+})
+
+pub returns-clause-went_on : goal.returns-clause-went_on
+returns-clause-went_on c = op_went_on _ _ _ _ _ _ (done c)
