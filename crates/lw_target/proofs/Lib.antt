@@ -6,12 +6,22 @@ pub mod ClientRuns
 pub mod OwnerRuns
 pub mod Sends
 pub mod ClientTicks
-pub mod Ending
+pub mod AppEnding
 pub mod AppTurns
 pub mod Resting
 pub mod Whole
 mod Answering
+mod Holdings
 mod Steps
+mod Handling
+mod LogGrowth
+mod Kept
+mod Places
+mod RanMessages
+mod Listing
+mod Doing
+mod Ending
+mod Ticking
 mod Carrying
 mod Turning
 mod Accepted

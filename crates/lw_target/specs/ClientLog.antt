@@ -1,5 +1,5 @@
 -- What a client has listed and run so far, and how what it keeps agrees with that.
-use Rattle.std.specs.Prelude.{ℕ, ◌+◌, ◌≡◌, ◌<◌, ◌⊎◌, ◌==◌, nat_le, Bool, true, false, cond, ◌&&◌, not, is_some, IsTrue, List, [], ◌∷◌, ◌++◌, length, map, reverse, Option, Some, None, option_to_list, option_map, slice_get, vec_len, count_by}
+use Rattle.std.specs.Prelude.{ℕ, ◌+◌, ◌≡◌, ◌<◌, ◌≤◌, ◌⊎◌, ◌==◌, nat_le, Bool, true, false, cond, ◌&&◌, not, is_some, IsTrue, List, [], ◌∷◌, ◌++◌, length, map, reverse, Option, Some, None, option_to_list, option_map, slice_get, vec_len, count_by, filter_map}
 use Rattle.std.specs.List.{list_all, list_any, flat_map}
 use Rattle.lw_base.specs.declared.message.Tag.{Tag}
 use Rattle.lw_base.specs.declared.message.What.{What}
@@ -14,8 +14,8 @@ use Rattle.lw_model.specs.declared.record.ThreadRecord.{ThreadRecord}
 use Rattle.lw_model.specs.declared.record.RoleKind.TheVariants as role
 use Rattle.lw_model.specs.Threads.{is_client, owner_of, ops_of, depth_of, op_at, image_at, is_on}
 use Rattle.lw_model.specs.OwnOrder.{own_order, with_past}
-use Rattle.lw_model.specs.Holding.{is_started, says, always, is_closed, references, pending, held}
-use Rattle.lw_model.specs.Answers.{unanswered, answer_fits, depth_fits, at_fits}
+use Rattle.lw_model.specs.Holding.{is_started, says, always, is_closed, gains, loses, ordinal_given, references, pending, held}
+use Rattle.lw_model.specs.Answers.{unanswered, unanswered_on, answer_fits, depth_fits, at_fits}
 use Rattle.lw_model.specs.Devices.{is_refusal}
 use Rattle.lw_model.specs.Sent.{referred}
 use Rattle.lw_target.specs.declared.client.Client.{Client}
@@ -78,8 +78,13 @@ pub record KeepsDevice (s : Script) (t : ℕ) (past : List Step) (d : ℕ) (k : 
   pub ordinal : held (is_on s t d) d past ≡ k.ordinal
   pub references : references (is_on s t d) past ≡ k.references
   pub pending : pending (is_on s t d) d past ≡ k.pending
-  -- a channel that stands has a reference or awaits its put
+  -- a channel that stands has a reference or awaits its put, and no other does
   pub standing : IsTrue (is_some k.ordinal) → 0 < k.references + k.pending
+  pub stands : 0 < k.references + k.pending → IsTrue (is_some k.ordinal)
+  -- no more references were given back than were taken
+  pub balance : count_by (says (is_on s t d) loses) past ≤ count_by (says (is_on s t d) gains) past
+  -- the last reference is kept as long as a request on it is unanswered
+  pub waited : k.references ≡ 0 → length (unanswered_on s t d past) ≡ 0
 
 -- what the client keeps is what its steps say, and each step fits those before it
 pub record Follows (s : Script) (c : Client) (ran : List Tag) : Type 0 where
@@ -94,6 +99,8 @@ pub record Follows (s : Script) (c : Client) (ran : List Tag) : Type 0 where
   pub lines : lines_fit s c.thread (steps_so_far c ran) ≡ true
   pub ats : ats_ascend (length ran) c.did ≡ true
   pub done : c.done ≡ true → (c.closed ≡ true) × (c.standing ≡ 0)
+  -- each op is given a channel once at most
+  pub gets : (d : ℕ) → length (filter_map (ordinal_given (is_on s c.thread d)) (steps_so_far c ran)) ≤ c.next
 
 -- the client was never refused a channel
 abbrev pub was_refused : Client → List Tag → Bool

@@ -9,6 +9,7 @@ pub mod Turns
 pub mod Run
 pub mod Sample
 pub mod Answers
+pub mod Effects
 pub mod Options
 pub mod ClientLog
 pub mod ClientCalls

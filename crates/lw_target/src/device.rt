@@ -17,6 +17,7 @@ pub struct Device {
 
 impl Device {
     ghost use Rattle.lw_target.specs.Answers.{unregister_answer};
+    ghost use Rattle.lw_target.specs.Effects.{device_after};
 
     /// A device that nobody has used.
     pub fn new() -> Self
@@ -49,6 +50,15 @@ impl Device {
         self.given = ordinal.saturating_add(1);
         self.standing = self.standing.saturating_add(1);
         ordinal
+    }
+
+    /// Counts a channel where the answer gives one.
+    pub fn count(&mut self, answer: Answer)
+        ensures { self.new ≡ device_after answer self.old }
+    {
+        if let Answer::Given { .. } = answer {
+            self.give();
+        }
     }
 
     /// Takes back a channel that was given.

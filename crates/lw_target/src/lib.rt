@@ -15,6 +15,7 @@ mod owner;
 mod post;
 mod posts;
 mod run;
+mod running;
 #[cfg(test)]
 mod tests;
 mod turns;

@@ -3,7 +3,7 @@ use Rattle.lw_model.specs.declared.record.Answer.TheVariants.{Began}
 use Rattle.lw_target.specs.declared.app.App.{App}
 use Rattle.lw_target.specs.declared.device.Device.{Device}
 use Rattle.lw_target.specs.App.{SameCalls, unregistered}
-use Rattle.lw_target.proofs.Ending.{begun}
+use Rattle.lw_target.proofs.AppEnding.{begun}
 use Rattle.lw_target.proofs.app.App.begin.Given as goal
 
 abbrev pub invariant-loop-place : goal.invariant-loop-place

@@ -3,7 +3,7 @@ use Rattle.lw_target.specs.declared.app.App.{App}
 use Rattle.lw_target.specs.declared.device.Device.{Device}
 use Rattle.lw_target.specs.App.{SameLines, called_back}
 use Rattle.lw_target.specs.Work.{app_work}
-use Rattle.lw_target.proofs.Ending.{called}
+use Rattle.lw_target.proofs.AppEnding.{called}
 use Rattle.lw_target.proofs.app.App.call_back.Given as goal
 
 abbrev pub invariant-loop-place : goal.invariant-loop-place
