@@ -10,6 +10,7 @@ pub mod Ending
 pub mod AppTurns
 pub mod Resting
 pub mod Whole
+pub mod Starting
 mod Answering
 mod Steps
 mod Carrying
