@@ -1,5 +1,5 @@
 -- A run is in order before its first turn.
-use Rattle.std.proofs.Common.{ℕ, zero, suc, ◌≡◌, ◌+◌, ◌<◌, ◌≤◌, Bool, true, false, cond, List, [], ◌∷◌, ◌++◌, map, length, Option, Some, None, arith, refl, sym, ◌∙◌, ap, subst, inl}
+use Rattle.std.proofs.Common.{ℕ, zero, suc, ◌≡◌, ◌≤◌, Bool, true, false, cond, List, [], ◌∷◌, ◌++◌, map, length, Option, Some, None, arith, refl, sym, ◌∙◌, ap, subst, inl}
 use Rattle.std.specs.Prelude.{◌&&◌, ◌==◌, vec_len, slice_get, nat_lt, nat_le, count_by, option_map, option_and_then, unwrap_or}
 use Rattle.std.specs.List.{All, list_all}
 use Rattle.std.proofs.lemmas.Bool.{and_parts, ltb-true}
@@ -10,7 +10,7 @@ use Rattle.lw_model.specs.declared.script.ClientOf.{ClientOf}
 use Rattle.lw_model.specs.declared.script.Op.{Op}
 use Rattle.lw_model.specs.declared.script.Op.TheVariants as op
 use Rattle.lw_model.specs.ScriptRules.{block_at, image_of}
-use Rattle.lw_model.specs.Threads.{ops_of, depth_of, op_at, image_at, is_client, owner_of}
+use Rattle.lw_model.specs.Threads.{ops_of, depth_of, is_client}
 use Rattle.lw_base.specs.declared.message.What.TheVariants as what
 use Rattle.lw_model.specs.declared.record.Reply.{Reply}
 use Rattle.lw_image.specs.Image.{Contents, IsAfter}
@@ -21,7 +21,7 @@ use Rattle.lw_target.specs.declared.device.Device.{Device}
 use Rattle.lw_target.specs.Messages.{Inbox}
 use Rattle.lw_target.specs.Ops.{is_servable}
 use Rattle.lw_target.specs.ClientLog.{IsOf, Follows, sent_so_far, was_refused}
-use Rattle.lw_target.specs.ClientCalls.{AllAgree, pending_of}
+use Rattle.lw_target.specs.ClientCalls.{AllAgree}
 use Rattle.lw_target.specs.WholeRun.{sent_to, reply_pairs}
 use Rattle.lw_target.specs.Turns.{unused}
 use Rattle.lw_target.specs.InOrder.{IsOfOne, IsToOwner}

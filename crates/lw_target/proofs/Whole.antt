@@ -1,6 +1,6 @@
 -- Where nothing is left to do all threads have ended, and their logs are one whole run.
-use Rattle.std.proofs.Common.{ℕ, zero, suc, ◌≡◌, ◌+◌, ◌-◌, ◌<◌, ◌≤◌, Bool, true, false, cond, List, [], ◌∷◌, ◌++◌, map, length, get_or, Option, Some, None, arith, refl, sym, ◌∙◌, ap, subst, inl, inr}
-use Rattle.std.specs.Prelude.{◌==◌, ◌&&◌, ◌⊎◌, vec_len, count_by, is_some, slice_get, filter_map, unwrap_or}
+use Rattle.std.proofs.Common.{ℕ, ◌≡◌, ◌+◌, ◌-◌, ◌<◌, ◌≤◌, Bool, true, false, cond, List, [], ◌∷◌, ◌++◌, map, length, get_or, Some, None, arith, refl, sym, ◌∙◌, ap, subst, inl, inr}
+use Rattle.std.specs.Prelude.{◌==◌, ◌⊎◌, vec_len, count_by, is_some, slice_get, filter_map, unwrap_or}
 use Rattle.std.specs.List.{list_all, list_any, range_with_len}
 use Rattle.std.proofs.lemmas.Bool.{eq-eqb, eqb-true, and_parts}
 use Rattle.std.proofs.lemmas.List.{append-nil}
@@ -21,15 +21,14 @@ use Rattle.lw_model.specs.Moves.{number_fits}
 use Rattle.lw_model.specs.Holding.{says, always, is_closed, gains, loses, references, is_putself, ordinal_given}
 use Rattle.lw_model.specs.declared.step.Step.{Step}
 use Rattle.lw_target.specs.declared.channel.Channel.{Channel}
-use Rattle.lw_target.specs.declared.client.Client.{Client}
 use Rattle.lw_target.specs.declared.device.Device.{Device}
 use Rattle.lw_target.specs.declared.turns.Target.{Target}
 use Rattle.lw_target.specs.Messages.{Inbox}
-use Rattle.lw_target.specs.ClientLog.{Follows, IsHeldUp, lines_fit, sends_of_steps, sent_so_far, steps_so_far, past_so_far, log_of}
+use Rattle.lw_target.specs.ClientLog.{IsHeldUp, lines_fit, sends_of_steps, sent_so_far, steps_so_far, past_so_far, log_of}
 use Rattle.lw_target.specs.ClientCalls.{AllAgree, pending_of, reply_carried}
 use Rattle.lw_target.specs.Letters.{Letter, letters, told, said_by}
-use Rattle.lw_target.specs.InOrder.{IsOfOne, IsClientInOrder, IsAnswered, IsAppInOrder, IsFresh, IsOver, IsInOrder, IsAtRest, is_reply_to, is_request_of}
-use Rattle.lw_target.specs.WholeRun.{run_from, sent_to, are_numbered, reply_pairs, requests_of, answers_of, Stayed, AppEnded, OwnerEnded, ClientEnded, IsWholeRun}
+use Rattle.lw_target.specs.InOrder.{IsFresh, IsOver, IsInOrder, IsAtRest, is_reply_to, is_request_of}
+use Rattle.lw_target.specs.WholeRun.{run_from, sent_to, are_numbered, reply_pairs, AppEnded, OwnerEnded, ClientEnded, IsWholeRun}
 use Rattle.lw_target.proofs.Numbers.{count_cons}
 use Rattle.lw_target.proofs.Told.{true_false, sent_append}
 use Rattle.lw_target.proofs.Sends.{thread_is}

@@ -1,4 +1,4 @@
-use Rattle.std.proofs.Common.{◌≡◌, [], ◌∷◌, ap, refl, ◌∙◌, sym, rules}
+use Rattle.std.proofs.Common.{◌≡◌, [], ◌∷◌, ap, ◌∙◌}
 use Rattle.lw_target.proofs.Starting.{starts, unused_all, of_one, is_of, block_is, new_device}
 use Rattle.lw_target.proofs.run.begin.Goals as goal
 
