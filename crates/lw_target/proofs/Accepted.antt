@@ -9,8 +9,8 @@ use Rattle.lw_model.specs.declared.script.ClientOf.{ClientOf}
 use Rattle.lw_model.specs.declared.script.ImageOf.{ImageOf}
 use Rattle.lw_model.specs.declared.script.Op.{Op}
 use Rattle.lw_model.specs.declared.script.Op.TheVariants as op
-use Rattle.lw_model.specs.declared.refusal.ScriptRefusal.TheVariants.{Name, Range, Pattern}
-use Rattle.lw_model.specs.ScriptRules.{Placed, placed_ops, with_earlier, first_failing, first_out_of_range, first_bad_pattern, is_in_range, is_in_range_after, is_pattern, read_bytes, rule_broken, rule_answers, has_names, names_an_image, all_ops}
+use Rattle.lw_model.specs.declared.refusal.ScriptRefusal.TheVariants.{Name, Range, Pattern, Limit}
+use Rattle.lw_model.specs.ScriptRules.{is_within, has_depths, Placed, placed_ops, with_earlier, first_failing, first_out_of_range, first_bad_pattern, is_in_range, is_in_range_after, is_pattern, read_bytes, rule_broken, rule_answers, has_names, names_an_image, all_ops}
 use Rattle.lw_model.specs.Served.{is_served, is_basic}
 use Rattle.lw_model.proofs.Rules.{each-none, kept}
 use Rattle.lw_target.specs.Messages.{IsWithin, operands}
@@ -175,3 +175,10 @@ pub ops_fit : (s : Script) (image : ImageOf) (client : ClientOf) → rule_broken
 ops_fit s image client e served f g =
     let is = script_is s image client f g in
     fits_one image client s.small s.large (subst (λ r. rule_broken r ≡ None) is e) (subst (λ r. is_served r ≡ true) is served)
+
+-- the one client's depth is at least 1
+pub depth_one : (s : Script) (client : ClientOf) → rule_broken s ≡ None → s.clients ≡ client ∷ [] → 1 ≤ client.depth
+depth_one s client e is =
+    let all = kept (rule_answers s) 4 (has_depths s) (Limit 5) e refl in
+    let one = sym (ap (list_all (λ (c : ClientOf). is_within 1 32 c.depth)) is) ∙ all in
+    leb-true 1 client.depth (and_first (nat_le 1 client.depth) (nat_le client.depth 32) (and_first (is_within 1 32 client.depth) true one))

@@ -1,5 +1,5 @@
 -- The app's end, of one device.
-use Rattle.std.proofs.Common.{ℕ, zero, suc, ◌≡◌, ◌+◌, ◌<◌, ◌∷◌, ◌++◌, List, [], Option, Some, None, true, false, Bool, length, get_or, set, arith, refl, sym, ap, subst, ◌∙◌}
+use Rattle.std.proofs.Common.{ℕ, zero, suc, ◌≡◌, ◌+◌, ◌<◌, ◌∷◌, ◌++◌, List, [], Some, None, true, false, Bool, length, get_or, set, arith, refl, ap, ◌∙◌}
 use Rattle.std.specs.Prelude.{is_none, ◌||◌, ◌≤◌, cond}
 use Rattle.lw_model.specs.declared.record.Did.{Did}
 use Rattle.lw_model.specs.declared.record.Called.{Called}
@@ -11,7 +11,7 @@ use Rattle.lw_target.specs.declared.app.App.{App}
 use Rattle.lw_target.specs.declared.device.Device.{Device}
 use Rattle.lw_target.specs.Messages.{Asked}
 use Rattle.lw_target.specs.Answers.{unregister_answer}
-use Rattle.lw_target.specs.App.{SameCalls, SameLines, Begins, Calls, Stops, Ends, unregistered, called_back}
+use Rattle.lw_target.specs.App.{Begins, Calls, Stops, Ends, unregistered, called_back}
 
 -- before the device is unregistered, and after
 abbrev pub begun : ℕ → List Did → App → ℕ → Device → List Device → Type 0

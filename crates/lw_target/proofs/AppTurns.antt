@@ -1,8 +1,8 @@
 -- A run stays in order where the app runs a message and where it goes on.
 use Rattle.std.proofs.Common.{ℕ, zero, suc, ◌≡◌, ◌+◌, ◌<◌, ◌≤◌, Bool, true, false, cond, List, [], ◌∷◌, ◌++◌, map, length, Option, Some, None, arith, refl, sym, ◌∙◌, ap, subst, append_assoc, inl, inr, length-append}
-use Rattle.std.specs.Prelude.{◌==◌, ◌&&◌, ◌||◌, ◌⊎◌, vec_len, count_by, is_some, slice_get, min, zip, filter_map}
+use Rattle.std.specs.Prelude.{◌==◌, ◌||◌, ◌⊎◌, vec_len, count_by, is_some, slice_get, min, zip, filter_map}
 use Rattle.std.specs.List.{All, list_all, range_with_len}
-use Rattle.std.proofs.lemmas.Bool.{and_parts, and_from, cases_lt}
+use Rattle.std.proofs.lemmas.Bool.{and_parts, cases_lt}
 use Rattle.std.proofs.lemmas.List.{map-append, append-nil, length-map}
 use Rattle.std.proofs.lemmas.List.Elements.{All-same, All-append, All-cons, All-nil}
 use Rattle.lw_base.specs.declared.message.What.{What}
@@ -29,7 +29,7 @@ use Rattle.lw_target.specs.ClientLog.{Follows, sent_so_far, was_refused, steps_s
 use Rattle.lw_target.specs.ClientCalls.{AllAgree, pending_of, reply_carried}
 use Rattle.lw_target.specs.WholeRun.{sent_to, requests_of, answers_of, reply_pairs}
 use Rattle.lw_target.specs.Letters.{Letter, letters, told, said_by, posted, Got}
-use Rattle.lw_target.specs.InOrder.{IsOfOne, is_to_app, is_to_client, IsToOwner, is_reply_to, is_request_of, past_requests, AreAddressed, IsClientInOrder, IsTold, IsAnswered, IsAppInOrder, IsFresh, IsOver}
+use Rattle.lw_target.specs.InOrder.{is_to_app, is_to_client, IsToOwner, is_reply_to, is_request_of, past_requests, AreAddressed, IsClientInOrder, IsTold, IsAnswered, IsFresh, IsOver}
 use Rattle.lw_target.proofs.Mails.{list_all_push}
 use Rattle.lw_target.proofs.Numbers.{count_cons, count_append}
 use Rattle.lw_target.proofs.Letters.{letter_of}
@@ -251,14 +251,14 @@ module _ (s : Script) (c : Client) (old new : App) (image : Contents) (before af
       let stop : Outgoing = record { to = 2; what = what.Stop; load = load.Nothing } in
       let letter : Letter = record { sender = 0; what = what.Stop; load = load.Nothing } in
       let sends : after.sends ≡ stop ∷ [] = e.sends ∙ ap (λ q. q ++ record { to = 1 + old.clients; what = what.Stop; load = load.Nothing } ∷ []) none
-          ∙ ap (λ n. (let o : Outgoing = record { to = 1 + n; what = what.Stop; load = load.Nothing } in o) ∷ []) h.apps.clients in
+      ∙ ap (λ n. (let o : Outgoing = record { to = 1 + n; what = what.Stop; load = load.Nothing } in o) ∷ []) h.apps.clients in
       let ga : Got app app' [] = subst (Got app app') (ap (posted 0 0) sends) to_app in
       let gc : Got client client' [] = subst (Got client client') (ap (posted 1 0) sends) to_client in
       let go : Got owner owner' (letter ∷ []) = subst (Got owner owner') (ap (posted 2 0) sends) to_owner in
       let heard = one_heard app.ran (letters app) c.done (omega (arith, due, h.apps.counted)) h.apps.heard in
       let ran : before.ran ≡ 1 = at ∙ heard.1 in
       let agree : AllAgree s c client.ran (w ∷ []) = agree_like s c client.ran v w (ap (λ (d : Device). d.standing) is) (ap (λ (d : Device). d.given) is)
-          (subst (λ ds. AllAgree s c client.ran ds) h.apps.device.1 h.clients.agree) in
+      (subst (λ ds. AllAgree s c client.ran ds) h.apps.device.1 h.clients.agree) in
       let clients : IsClientInOrder s c client devices' = record {
         follows = h.clients.follows;
         agree = subst (λ ds. AllAgree s c client.ran ds) (sym e.device) agree;
@@ -272,17 +272,21 @@ module _ (s : Script) (c : Client) (old new : App) (image : Contents) (before af
         answered = posted_answered s c image app app' client client' owner owner' devices' (letter ∷ []) ga gc go h.answered;
         apps = record {
           clients = e.clients ∙ h.apps.clients;
-          device = (w, e.device, inr (record {
-            client = heard.0;
-            began = e.began;
-            ended = e.ended;
-            did = e.did ∙ ap (λ q. q ++ record { at = before.ran; op = 0; answer = Began v.given } ∷ []) f.did
-                ∙ ap (λ n. (let l : Did = record { at = n; op = 0; answer = Began v.given } in l) ∷ []) ran
-                ∙ ap (λ n. (let l : Did = record { at = 1; op = 0; answer = Began n } in l) ∷ []) (sym (ap (λ (d : Device). d.given) is));
-            called = e.called ∙ ap (λ q. q ++ record { at = before.ran; device = 0 } ∷ []) f.called ∙ ap (λ n. (let l : Called = record { at = n; device = 0 } in l) ∷ []) ran;
-            shut = ap (λ (d : Device). d.shut_by) is;
-            callbacks = ap (λ (d : Device). d.callbacks) is ∙ ap (λ n. min (n + 1) 4294967295) f.callbacks;
-          }));
+          device = (
+            w,
+            e.device,
+            inr (record {
+              client = heard.0;
+              began = e.began;
+              ended = e.ended;
+              did = e.did ∙ ap (λ q. q ++ record { at = before.ran; op = 0; answer = Began v.given } ∷ []) f.did
+                  ∙ ap (λ n. (let l : Did = record { at = n; op = 0; answer = Began v.given } in l) ∷ []) ran
+                  ∙ ap (λ n. (let l : Did = record { at = 1; op = 0; answer = Began n } in l) ∷ []) (sym (ap (λ (d : Device). d.given) is));
+              called = e.called ∙ ap (λ q. q ++ record { at = before.ran; device = 0 } ∷ []) f.called ∙ ap (λ n. (let l : Called = record { at = n; device = 0 } in l) ∷ []) ran;
+              shut = ap (λ (d : Device). d.shut_by) is;
+              callbacks = ap (λ (d : Device). d.callbacks) is ∙ ap (λ n. min (n + 1) 4294967295) f.callbacks;
+            }),
+          );
           counted = e.done ∙ h.apps.counted ∙ sym (ap length ga.ran);
           heard = heard_same s c image app app' client client' owner owner' devices' (letter ∷ []) ga gc go ∙ h.apps.heard;
           stops = told_got 0 owner owner' (letter ∷ []) go ∙ ap (λ q. q ++ what.Stop ∷ []) (h.apps.stops ∙ ap (λ b. cond b (what.Stop ∷ []) []) f.ended)

@@ -1,11 +1,10 @@
 -- A run stays in order where the client runs a message.
-use Rattle.std.proofs.Common.{ℕ, zero, suc, ◌≡◌, ◌+◌, ◌-◌, ◌<◌, ◌≤◌, Bool, true, false, cond, List, [], ◌∷◌, ◌++◌, map, length, Option, Some, None, arith, refl, sym, ◌∙◌, ap, subst, append_assoc, inl, inr}
-use Rattle.std.specs.Prelude.{◌==◌, ◌&&◌, ◌||◌, ◌⊎◌, not, filter, filter_map, option_map, option_to_list, nat_lt, count_by, zip, reverse}
+use Rattle.std.proofs.Common.{ℕ, ◌≡◌, ◌+◌, ◌≤◌, Bool, true, false, cond, List, [], ◌∷◌, ◌++◌, map, length, Option, Some, None, arith, refl, sym, ◌∙◌, ap, subst, append_assoc, inl, inr}
+use Rattle.std.specs.Prelude.{◌==◌, ◌||◌, ◌⊎◌, not, filter, filter_map, option_to_list, count_by}
 use Rattle.std.specs.List.{list_all}
-use Rattle.std.proofs.lemmas.Bool.{eq-eqb, eqb-true, and_parts, and_from}
+use Rattle.std.proofs.lemmas.Bool.{eq-eqb, eqb-true, and_parts}
 use Rattle.std.proofs.lemmas.List.{map-append, append-nil}
 use Rattle.std.proofs.lemmas.List.Elements.{filter_map-append}
-use Rattle.std.proofs.lemmas.List.Folds.{list_all-append}
 use Rattle.lw_base.specs.declared.message.What.{What}
 use Rattle.lw_base.specs.declared.message.What.TheVariants as what
 use Rattle.lw_base.specs.declared.message.Tag.{Tag}
@@ -23,10 +22,10 @@ use Rattle.lw_target.specs.declared.client.Client.{Client}
 use Rattle.lw_target.specs.declared.device.Device.{Device}
 use Rattle.lw_target.specs.Messages.{Inbox}
 use Rattle.lw_target.specs.ClientLog.{Follows, sent_so_far, was_refused}
-use Rattle.lw_target.specs.ClientCalls.{RanMessage, AllAgree, ends_of, pending_of, still_unanswered, reply_carried}
+use Rattle.lw_target.specs.ClientCalls.{RanMessage, AllAgree, ends_of, still_unanswered, reply_carried}
 use Rattle.lw_target.specs.WholeRun.{sent_to, reply_pairs}
-use Rattle.lw_target.specs.Letters.{Letter, letters, told}
-use Rattle.lw_target.specs.InOrder.{is_to_client, is_replied, is_reply_to, is_request_of, IsOfOne, AreAddressed, IsClientInOrder, IsTold, IsAnswered, IsAppInOrder, IsFresh, IsOver}
+use Rattle.lw_target.specs.Letters.{Letter, letters}
+use Rattle.lw_target.specs.InOrder.{is_to_client, is_replied, is_reply_to, is_request_of, AreAddressed, IsClientInOrder, IsTold, IsAnswered, IsAppInOrder, IsFresh, IsOver}
 use Rattle.lw_target.proofs.Mails.{list_all_push}
 use Rattle.lw_target.proofs.Numbers.{count_cons}
 use Rattle.lw_target.proofs.Letters.{letter_of}

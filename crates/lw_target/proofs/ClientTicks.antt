@@ -1,12 +1,11 @@
 -- A run stays in order where the client goes on.
-use Rattle.std.proofs.Common.{ℕ, zero, suc, ◌≡◌, ◌+◌, ◌<◌, ◌≤◌, Bool, true, false, cond, List, [], ◌∷◌, ◌++◌, map, length, Option, Some, None, arith, refl, sym, ◌∙◌, ap, subst, append_assoc, inl, inr}
-use Rattle.std.specs.Prelude.{◌==◌, ◌&&◌, ◌||◌, ◌⊎◌, filter_map, count_by, is_none, zip}
-use Rattle.std.specs.List.{All, list_all}
+use Rattle.std.proofs.Common.{ℕ, ◌≡◌, ◌+◌, true, false, cond, List, [], ◌∷◌, ◌++◌, map, length, Option, arith, refl, sym, ◌∙◌, ap, subst, append_assoc, inl, inr}
+use Rattle.std.specs.Prelude.{◌==◌, ◌||◌, ◌⊎◌, filter_map, count_by, is_none, zip}
+use Rattle.std.specs.List.{list_all}
 use Rattle.std.proofs.lemmas.Bool.{and_parts, and_from}
 use Rattle.std.proofs.lemmas.List.{map-append, append-nil}
 use Rattle.std.proofs.lemmas.List.Elements.{filter_map-append, All-same, All-append}
 use Rattle.std.proofs.lemmas.List.Folds.{list_all-append}
-use Rattle.lw_base.specs.declared.message.What.{What}
 use Rattle.lw_base.specs.declared.message.What.TheVariants as what
 use Rattle.lw_base.specs.declared.message.Tag.{Tag}
 use Rattle.lw_model.specs.declared.script.Script.{Script}

@@ -10,6 +10,7 @@ pub mod AppEnding
 pub mod AppTurns
 pub mod Resting
 pub mod Whole
+pub mod Starting
 mod Answering
 mod Holdings
 mod Steps

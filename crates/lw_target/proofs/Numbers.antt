@@ -69,7 +69,7 @@ push_numbered ran old new sent m count n within number counts is = record {
       let inside : s < length sent = omega (arith, below, length-set sent m.tag.sender count) in
       let more : count_by (λ (x : Tag). x.sender == s) (came ran new) ≡ count_by (λ (x : Tag). x.sender == s) (came ran old) + cond (m.tag.sender == s) 1 0 =
       ap (count_by (λ (x : Tag). x.sender == s)) now ∙ count_append (λ (x : Tag). x.sender == s) (came ran old) (m.tag ∷ [])
-          ∙ ap (λ k. count_by (λ (x : Tag). x.sender == s) (came ran old) + k) (count_one (λ (x : Tag). x.sender == s) m.tag) in
+      ∙ ap (λ k. count_by (λ (x : Tag). x.sender == s) (came ran old) + k) (count_one (λ (x : Tag). x.sender == s) m.tag) in
       at s (m.tag.sender == s) refl (n.counted s inside) more;
 }
   where

@@ -1,8 +1,8 @@
 -- A run stays in order where the owner runs a message.
-use Rattle.std.proofs.Common.{ℕ, zero, suc, ◌≡◌, ◌+◌, ◌<◌, ◌≤◌, Bool, true, false, cond, List, [], ◌∷◌, ◌++◌, map, length, Option, Some, None, arith, refl, sym, ◌∙◌, ap, subst, append_assoc, length-append}
-use Rattle.std.specs.Prelude.{◌==◌, ◌&&◌, ◌||◌, filter_map, option_to_list, option_and_then, count_by, zip, reverse}
-use Rattle.std.specs.List.{All, list_all}
-use Rattle.std.proofs.lemmas.Bool.{eq-eqb, and_parts, and_from}
+use Rattle.std.proofs.Common.{ℕ, suc, ◌≡◌, Bool, true, List, [], ◌∷◌, ◌++◌, map, length, Option, Some, arith, refl, sym, ◌∙◌, ap, subst, append_assoc}
+use Rattle.std.specs.Prelude.{◌==◌, ◌||◌, filter_map, option_and_then, count_by, zip, reverse}
+use Rattle.std.specs.List.{list_all}
+use Rattle.std.proofs.lemmas.Bool.{and_from}
 use Rattle.std.proofs.lemmas.List.{map-append, append-nil, reverse-append, length-map}
 use Rattle.std.proofs.lemmas.List.Elements.{filter_map-append, All-head, All-rest, All-same}
 use Rattle.std.proofs.lemmas.List.Folds.{list_all-append}
@@ -30,7 +30,7 @@ use Rattle.lw_target.specs.declared.owner.Owner.{Owner}
 use Rattle.lw_target.specs.declared.acts.Outgoing.{Outgoing}
 use Rattle.lw_target.specs.Messages.{Inbox, operands}
 use Rattle.lw_target.specs.ClientLog.{Follows, sent_so_far, was_refused}
-use Rattle.lw_target.specs.ClientCalls.{AllAgree, reply_carried, pending_of}
+use Rattle.lw_target.specs.ClientCalls.{AllAgree, reply_carried}
 use Rattle.lw_target.specs.Owner.{AnswersAs, Serves}
 use Rattle.lw_target.specs.WholeRun.{sent_to, reply_pairs, requests_of, answers_of}
 use Rattle.lw_target.specs.Letters.{Letter, letters, told, said_by, posted, Got}
@@ -60,7 +60,6 @@ zip_push (a ∷ xs) (b ∷ ys) x y e = ap (λ q. (a, b) ∷ q) (zip_push xs ys x
 
 asked_push : (ran : List Tag) (m : Tag) → filter_map request_of (ran ++ m ∷ []) ≡ filter_map request_of ran ++ filter_map request_of (m ∷ [])
 asked_push ran m = filter_map-append request_of ran (m ∷ [])
-
 
 -- the log with one request more
 module _ (s : Script) (ran : List Tag) (sender number k : ℕ) where
@@ -169,7 +168,7 @@ module _ (s : Script) (c : Client) (client client' owner taken owner' : Inbox) (
       let find = λ (l : Letter). reply_carried l.what l.load in
       let listed : c.replies ++ filter_map find (letters client') ≡ (c.replies ++ filter_map find (letters client)) ++ record { op = k; answer = answer } ∷ [] =
       ap (λ q. c.replies ++ filter_map find q) to_client.waiting ∙ ap (λ q. c.replies ++ q) (filter_map-append find (letters client) (reply ∷ []))
-          ∙ sym (append_assoc c.replies (filter_map find (letters client)) (record { op = k; answer = answer } ∷ [])) in
+      ∙ sym (append_assoc c.replies (filter_map find (letters client)) (record { op = k; answer = answer } ∷ [])) in
       record {
         replies = told_got 2 client client' (reply ∷ []) to_client ∙ ap (λ q. q ++ what.Reply k ∷ []) h.replies
             ∙ sym (ap (λ q. map (λ j. what.Reply j) (requests_of q)) ran_all ∙ ap (map (λ j. what.Reply j)) (requests_push s owner.ran 1 number k) ∙ map-append (λ j. what.Reply j) (requests_of owner.ran) (k ∷ []));

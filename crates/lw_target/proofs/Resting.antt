@@ -1,5 +1,5 @@
 -- Where no thread did anything in a turn, none can.
-use Rattle.std.proofs.Common.{ℕ, ◌≡◌, ◌≤◌, ◌<◌, Bool, true, false, cond, arith, [], refl, sym, ◌∙◌, ap, subst}
+use Rattle.std.proofs.Common.{ℕ, ◌≡◌, ◌≤◌, ◌<◌, Bool, true, false, cond, arith, [], refl, sym, ◌∙◌, subst}
 use Rattle.std.specs.Prelude.{◌||◌, ◌⊎◌}
 use Rattle.lw_target.specs.declared.app.App.{App}
 use Rattle.lw_target.specs.declared.client.Client.{Client}

@@ -1,33 +1,30 @@
 -- What a client's sends leave in the posts.
-use Rattle.std.proofs.Common.{ℕ, zero, suc, ◌≡◌, ◌+◌, ◌<◌, ◌≤◌, Bool, true, false, cond, List, [], ◌∷◌, ◌++◌, map, length, Option, Some, None, arith, refl, sym, ◌∙◌, ap, subst, append_assoc}
-use Rattle.std.specs.Prelude.{◌==◌, ◌&&◌, ◌||◌, filter, filter_map, option_to_list, count_by, slice_get, nat_lt, nat_le}
+use Rattle.std.proofs.Common.{ℕ, ◌≡◌, ◌+◌, Bool, true, false, cond, List, [], ◌∷◌, ◌++◌, map, length, Option, None, arith, refl, sym, ◌∙◌, ap}
+use Rattle.std.specs.Prelude.{◌==◌, filter, filter_map, option_to_list, count_by, slice_get, nat_lt, nat_le}
 use Rattle.std.specs.List.{All, list_all}
-use Rattle.std.proofs.lemmas.Bool.{eq-eqb, eqb-true, and_parts, and_from, ltb-true, leb-true}
-use Rattle.std.proofs.lemmas.List.{map-append, append-nil}
-use Rattle.std.proofs.lemmas.List.Elements.{filter_map-append, All-head, All-rest, All-nil, All-cons}
+use Rattle.std.proofs.lemmas.Bool.{eqb-true, and_parts, and_from, ltb-true, leb-true}
+use Rattle.std.proofs.lemmas.List.Elements.{All-head, All-rest, All-nil, All-cons}
 use Rattle.std.proofs.lemmas.List.Folds.{list_all-append}
 use Rattle.lw_base.specs.declared.message.What.{What}
 use Rattle.lw_base.specs.declared.message.What.TheVariants as what
 use Rattle.lw_base.specs.declared.message.Tag.{Tag}
 use Rattle.lw_model.specs.declared.script.Script.{Script}
 use Rattle.lw_model.specs.declared.script.Op.{Op}
-use Rattle.lw_model.specs.declared.record.Reply.{Reply}
-use Rattle.lw_model.specs.Threads.{is_client, op_at, ops_of}
+use Rattle.lw_model.specs.Threads.{is_client, ops_of}
 use Rattle.lw_model.specs.Holding.{is_putself}
 use Rattle.lw_target.specs.declared.mail.Load.{Load}
 use Rattle.lw_target.specs.declared.acts.Outgoing.{Outgoing}
 use Rattle.lw_target.specs.declared.client.Client.{Client}
-use Rattle.lw_target.specs.Messages.{Inbox, operands}
 use Rattle.lw_target.specs.Ops.{IsOfOps, AllOfOps}
-use Rattle.lw_target.specs.ClientLog.{Follows, sent_so_far, sends_of_steps, steps_so_far}
+use Rattle.lw_target.specs.ClientLog.{sent_so_far, sends_of_steps, steps_so_far}
 use Rattle.lw_target.specs.ClientCalls.{receivers, requested, reply_carried, putselfs_to}
 use Rattle.lw_target.specs.WholeRun.{sent_to}
-use Rattle.lw_target.specs.Letters.{Letter, letters, said_by, post_of, posted}
+use Rattle.lw_target.specs.Letters.{Letter, said_by, post_of, posted}
 use Rattle.lw_target.specs.InOrder.{IsOfOne, IsToOwner, is_to_app, is_to_client, is_request_of}
 use Rattle.lw_target.proofs.Numbers.{count_cons, count_append, count_one}
 use Rattle.lw_target.proofs.Letters.{letter_from, posted_one, posted_append}
 use Rattle.lw_target.proofs.ClientRuns.{filter_map_one}
-use Rattle.lw_target.proofs.Told.{true_false, is_routed, is_step_routed, routed_post, steps_routed, all_step_routed, none_to_app, sent_append}
+use Rattle.lw_target.proofs.Told.{true_false, is_routed, steps_routed, all_step_routed, none_to_app, sent_append}
 
 -- the one client is thread 1
 pub thread_is : (s : Script) (t : ℕ) → IsOfOne s → is_client s t ≡ true → t ≡ 1

@@ -1,6 +1,6 @@
 -- What was told to a thread, as messages are run and delivered, and where a client's sends go.
-use Rattle.std.proofs.Common.{take, ℕ, zero, suc, ◌≡◌, ◌≢◌, ◌+◌, ◌<◌, Bool, true, false, cond, List, [], ◌∷◌, ◌++◌, map, length, Option, Some, None, arith, refl, sym, ◌∙◌, ap, subst, append_assoc, IsTrue}
-use Rattle.std.specs.Prelude.{◌==◌, ◌&&◌, ◌||◌, ◌⊎◌, filter, filter_map, option_map, option_to_list, nat_lt}
+use Rattle.std.proofs.Common.{take, ℕ, zero, suc, ◌≡◌, Bool, true, false, cond, List, [], ◌∷◌, ◌++◌, map, length, Option, Some, None, arith, refl, sym, ◌∙◌, ap, subst, append_assoc}
+use Rattle.std.specs.Prelude.{◌==◌, filter, option_map, option_to_list}
 use Rattle.std.specs.List.{list_all, flat_map}
 use Rattle.std.proofs.lemmas.Bool.{eq-eqb, eqb-true, and_parts, and_from}
 use Rattle.std.proofs.lemmas.List.{map-append, append-nil}
@@ -15,14 +15,13 @@ use Rattle.lw_model.specs.declared.step.Step.TheVariants as step
 use Rattle.lw_model.specs.declared.record.Did.{Did}
 use Rattle.lw_model.specs.declared.record.Answer.{Answer}
 use Rattle.lw_model.specs.declared.record.Answer.TheVariants as answer
-use Rattle.lw_model.specs.Threads.{owner_of, image_at, is_on}
+use Rattle.lw_model.specs.Threads.{owner_of, image_at}
 use Rattle.lw_model.specs.OwnOrder.{with_past}
-use Rattle.lw_model.specs.Holding.{references}
 use Rattle.lw_model.specs.Sent.{referred}
 use Rattle.lw_target.specs.declared.mail.Mail.{Mail}
 use Rattle.lw_target.specs.declared.acts.Outgoing.{Outgoing}
 use Rattle.lw_target.specs.Messages.{Inbox}
-use Rattle.lw_target.specs.ClientLog.{sends_of, sends_of_steps}
+use Rattle.lw_target.specs.ClientLog.{sends_of}
 use Rattle.lw_target.specs.ClientCalls.{receivers}
 use Rattle.lw_target.specs.WholeRun.{run_from, sent_to}
 use Rattle.lw_target.specs.Letters.{Letter, letters, said_by, told, post_of, posted, Got}

@@ -27,7 +27,7 @@ use Rattle.lw_target.specs.Owner.{Serves}
 use Rattle.lw_target.specs.ClientLog.{Follows}
 use Rattle.lw_target.specs.ClientCalls.{WentOn, Rests}
 use Rattle.lw_target.specs.Letters.{Got, posted}
-use Rattle.lw_target.specs.InOrder.{IsInOrder, IsClientInOrder, IsTold, IsAnswered, IsAppInOrder}
+use Rattle.lw_target.specs.InOrder.{IsClientInOrder, IsTold, IsAnswered, IsAppInOrder}
 use Rattle.lw_target.specs.App.{IsDue, IsUnused, Ends}
 use Rattle.lw_target.proofs.AppTurns.{app_turn_order}
 use Rattle.lw_target.proofs.OwnerRuns.{serve_order}

@@ -1,6 +1,6 @@
 -- Where nothing is left to do all threads have ended, and their logs are one whole run.
-use Rattle.std.proofs.Common.{ℕ, zero, suc, ◌≡◌, ◌+◌, ◌-◌, ◌<◌, ◌≤◌, Bool, true, false, cond, List, [], ◌∷◌, ◌++◌, map, length, Option, Some, None, arith, refl, sym, ◌∙◌, ap, subst, inl, inr}
-use Rattle.std.specs.Prelude.{◌==◌, ◌&&◌, ◌⊎◌, vec_len, count_by, is_some, slice_get, filter_map, option_to_list}
+use Rattle.std.proofs.Common.{ℕ, ◌≡◌, ◌+◌, ◌-◌, ◌<◌, ◌≤◌, Bool, true, false, cond, List, [], ◌∷◌, ◌++◌, map, length, get_or, Some, None, arith, refl, sym, ◌∙◌, ap, subst, inl, inr}
+use Rattle.std.specs.Prelude.{◌==◌, ◌⊎◌, vec_len, count_by, is_some, slice_get, filter_map, unwrap_or}
 use Rattle.std.specs.List.{list_all, list_any, range_with_len}
 use Rattle.std.proofs.lemmas.Bool.{eq-eqb, eqb-true, and_parts}
 use Rattle.std.proofs.lemmas.List.{append-nil}
@@ -9,6 +9,9 @@ use Rattle.lw_base.specs.declared.message.What.TheVariants as what
 use Rattle.lw_base.specs.declared.message.Tag.{Tag}
 use Rattle.lw_model.specs.declared.script.Script.{Script}
 use Rattle.lw_model.specs.declared.record.ThreadRecord.{ThreadRecord}
+use Rattle.lw_model.specs.declared.record.RoleKind.{RoleKind}
+use Rattle.lw_model.specs.declared.record.Called.{Called}
+use Rattle.lw_model.specs.declared.record.Reply.{Reply}
 use Rattle.lw_model.specs.declared.record.RoleKind.TheVariants as role
 use Rattle.lw_model.specs.declared.record.Did.{Did}
 use Rattle.lw_model.specs.declared.record.Answer.TheVariants.{Began}
@@ -18,15 +21,14 @@ use Rattle.lw_model.specs.Moves.{number_fits}
 use Rattle.lw_model.specs.Holding.{says, always, is_closed, gains, loses, references, is_putself, ordinal_given}
 use Rattle.lw_model.specs.declared.step.Step.{Step}
 use Rattle.lw_target.specs.declared.channel.Channel.{Channel}
-use Rattle.lw_target.specs.declared.client.Client.{Client}
 use Rattle.lw_target.specs.declared.device.Device.{Device}
 use Rattle.lw_target.specs.declared.turns.Target.{Target}
 use Rattle.lw_target.specs.Messages.{Inbox}
-use Rattle.lw_target.specs.ClientLog.{Follows, IsHeldUp, lines_fit, sends_of_steps, sent_so_far, steps_so_far, past_so_far, log_of}
+use Rattle.lw_target.specs.ClientLog.{IsHeldUp, lines_fit, sends_of_steps, sent_so_far, steps_so_far, past_so_far, log_of}
 use Rattle.lw_target.specs.ClientCalls.{AllAgree, pending_of, reply_carried}
 use Rattle.lw_target.specs.Letters.{Letter, letters, told, said_by}
-use Rattle.lw_target.specs.InOrder.{IsOfOne, IsClientInOrder, IsAnswered, IsAppInOrder, IsFresh, IsOver, IsInOrder, IsAtRest, is_reply_to, is_request_of}
-use Rattle.lw_target.specs.WholeRun.{run_from, sent_to, are_numbered, reply_pairs, requests_of, answers_of, Stayed, AppEnded, OwnerEnded, ClientEnded, IsWholeRun}
+use Rattle.lw_target.specs.InOrder.{IsFresh, IsOver, IsInOrder, IsAtRest, is_reply_to, is_request_of}
+use Rattle.lw_target.specs.WholeRun.{run_from, sent_to, are_numbered, reply_pairs, AppEnded, OwnerEnded, ClientEnded, IsWholeRun}
 use Rattle.lw_target.proofs.Numbers.{count_cons}
 use Rattle.lw_target.proofs.Told.{true_false, sent_append}
 use Rattle.lw_target.proofs.Sends.{thread_is}
@@ -211,3 +213,24 @@ module _ (s : Script) (t : Target) (h : IsInOrder s t) (r : IsAtRest t) (deep : 
     thread = ended.1;
     callbacks = ended.2 ∙ over.2.callbacks;
   }
+
+-- ---- logs that are put together
+
+abbrev pub record_of : RoleKind → List Tag → List Did → List Called → List Reply → ThreadRecord
+record_of k ran did called replies = record { role = k; home = 0; hops = []; ran = ran; did = did; called = called; replies = replies; seen = [] }
+
+pub same_log : (k : RoleKind) (ran ran' : List Tag) (did did' : List Did) (called called' : List Called) (replies replies' : List Reply)
+    → ran ≡ ran' → did ≡ did' → called ≡ called' → replies ≡ replies' → record_of k ran did called replies ≡ record_of k ran' did' called' replies'
+same_log k ran ran' did did' called called' replies replies' e f g h =
+    ap (λ x. record_of k x did called replies) e ∙ ap (λ x. record_of k ran' x called replies) f
+    ∙ ap (λ x. record_of k ran' did' x replies) g ∙ ap (λ x. record_of k ran' did' called' x) h
+
+-- what the one device comes to
+pub device_ended : (t : Target) (w : Device) (e : DeviceEnd) → w ≡ get_or t.devices.items 0 w → e ≡ record { given = w.given; thread = unwrap_or w.shut_by 0; callbacks = w.callbacks }
+    → (v : Device) → t.devices.items ≡ v ∷ [] → v.shut_by ≡ Some 0 → (e.given ≡ v.given) × (e.thread ≡ 0) × (e.callbacks ≡ v.callbacks)
+device_ended t w e here is v devices shut =
+    let same : w ≡ v = here ∙ ap (λ ds. get_or ds 0 w) devices in (
+      ap (λ (x : DeviceEnd). x.given) is ∙ ap (λ (x : Device). x.given) same,
+      ap (λ (x : DeviceEnd). x.thread) is ∙ ap (λ (x : Device). unwrap_or x.shut_by 0) same ∙ ap (λ o. unwrap_or o 0) shut,
+      ap (λ (x : DeviceEnd). x.callbacks) is ∙ ap (λ (x : Device). x.callbacks) same,
+    )

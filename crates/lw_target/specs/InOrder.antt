@@ -21,7 +21,7 @@ use Rattle.lw_target.specs.declared.device.Device.{Device}
 use Rattle.lw_target.specs.declared.turns.Target.{Target}
 use Rattle.lw_target.specs.Messages.{Inbox, operands}
 use Rattle.lw_target.specs.ClientLog.{Follows, sent_so_far, was_refused, IsHeldUp}
-use Rattle.lw_target.specs.ClientCalls.{AllAgree, pending_of, requested, replied, reply_carried}
+use Rattle.lw_target.specs.ClientCalls.{AllAgree, pending_of, reply_carried}
 use Rattle.lw_target.specs.Letters.{Letter, letters, told}
 use Rattle.lw_target.specs.WholeRun.{sent_to, requests_of, answers_of, reply_pairs}
 

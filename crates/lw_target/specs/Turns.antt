@@ -1,12 +1,12 @@
 -- The messages under way, and the turns that carry them.
-use Rattle.std.specs.Prelude.{ℕ, ◌⊎◌, ◌≡◌, ◌+◌, ◌≤◌, ◌<◌, true, false, List, [], length, vec_len}
+use Rattle.std.specs.Prelude.{ℕ, ◌⊎◌, ◌≡◌, ◌+◌, ◌≤◌, ◌<◌, true, false, List, [], ◌∷◌, length, vec_len}
 use Rattle.std.specs.List.{All}
 use Rattle.lw_model.specs.declared.script.Op.{Op}
 use Rattle.lw_model.specs.declared.script.Script.{Script}
 use Rattle.lw_target.specs.declared.acts.Outgoing.{Outgoing}
 use Rattle.lw_target.specs.declared.posts.Posts.{Posts}
 use Rattle.lw_target.specs.declared.turns.Target.{Target}
-use Rattle.lw_target.specs.Messages.{AllFit, AllMayGo, IsWithin, operands, waiting_work, asked_work}
+use Rattle.lw_target.specs.Messages.{Inbox, AllFit, AllMayGo, IsWithin, operands, waiting_work, asked_work}
 use Rattle.lw_target.specs.ClientLog.{IsHeldUp}
 use Rattle.lw_target.specs.Letters.{Got, letters, posted}
 use Rattle.lw_target.specs.InOrder.{IsInOrder}
@@ -23,6 +23,10 @@ posts_work p = waiting_work p.app.waiting + waiting_work p.client.waiting + wait
 -- each of the three threads may send to each
 abbrev pub HasSenders : Posts → Type 0
 HasSenders p = (length p.app.sent ≡ 3) × (length p.client.sent ≡ 3) × (length p.owner.sent ≡ 3)
+
+-- an inbox to which nothing came
+abbrev pub unused : Inbox
+unused = record { waiting = []; sent = 0 ∷ 0 ∷ 0 ∷ []; ran = [] }
 
 -- some sends of a thread were delivered, each to its receiver, and nothing was run
 pub record Carried (sender : ℕ) (old new : Posts) (sends : List Outgoing) : Type 0 where

@@ -27,12 +27,12 @@ pub struct Posts {
 
 impl Posts {
     ghost use Rattle.std.specs.Prelude.{[], ◌∷◌};
-    ghost use Rattle.lw_target.specs.Turns.{Carried, HasSenders};
+    ghost use Rattle.lw_target.specs.Turns.{Carried, HasSenders, unused};
 
     /// Nothing waits.
     pub fn new(alloc: Global) -> Result<Posts, NoMemory>
         ensures senders { IfOk result HasSenders }
-        ensures waiting { IfOk result (λ p. (p.app.waiting ≡ []) × (p.client.waiting ≡ []) × (p.owner.waiting ≡ [])) }
+        ensures empty { IfOk result (λ p. (p.app ≡ unused) × (p.client ≡ unused) × (p.owner ≡ unused)) }
     {
         Ok(Posts {
             app: Post::new(alloc, THREADS)?,

@@ -7,7 +7,9 @@ ghost use Rattle.lw_model.specs.Served.{is_served};
 ghost use Rattle.lw_target.specs.Options.{AreServed};
 ghost use Rattle.lw_target.specs.Ops.{is_servable};
 ghost use Rattle.lw_target.specs.Turns.{OpsFit, IsRunning};
-ghost use Rattle.lw_target.specs.Run.{AreThreads};
+ghost use Rattle.lw_model.specs.declared.script.Script.{Script};
+ghost use Rattle.lw_target.specs.InOrder.{IsInOrder, IsAtRest};
+ghost use Rattle.lw_target.specs.Run.{AreThreads, Leaves, IsOfWholeRun};
 
 use crate::acts::Acts;
 use crate::app::App;
@@ -37,6 +39,9 @@ pub fn run_script(alloc: Global, script: Script, options: Options) -> Result<Rec
     ensures scheduler { IfOk result (λ r. r.scheduler ≡ options.scheduler) }
     ensures reactors { IfOk result (λ r. r.reactors ≡ options.reactors) }
     ensures period { IfOk result (λ r. r.period ≡ options.period) }
+    ensures home { IfOk result (λ r. (r.home.small ≡ script.small) × (r.home.large ≡ script.large)) }
+    ensures no_rounds { IfOk result (λ r. (r.span ≡ None) × (r.rounds ≡ [])) }
+    ensures whole { IfOk result IsOfWholeRun }
 {
     let small = script.small;
     let large = script.large;
@@ -86,6 +91,7 @@ fn begin(alloc: Global, size: &ImageOf, of: ClientOf) -> Result<Target, NoMemory
     ensures running { IfOk result IsRunning }
     ensures of { IfOk result (λ t. t.client.of ≡ of) }
     ensures device { IfOk result (λ t. vec_len t.app.owed ≡ 1) }
+    ensures order { IfOk result (λ t. (s : Script) → s.images ≡ size.now ∷ [] → s.clients ≡ of ∷ [] → IsInOrder s t) }
 {
     let image = Image::zero(alloc, size.blocks, size.block)?;
     Ok(Target {
@@ -112,6 +118,8 @@ fn end(alloc: Global, target: Target) -> Result<Ended, NoMemory>
     ensures of { IfOk result (λ e. e.of ≡ target.client.of) }
     ensures threads { IfOk result (λ e. AreThreads e.threads) }
     ensures devices { IfOk result (λ e. length e.devices ≡ 1) }
+    ensures whole { IfOk result (λ e. (s : Script) → IsInOrder s target → IsAtRest target → 1 ≤ target.client.of.depth
+        → Leaves s e.threads e.devices) }
 {
     let devices = Items::from_vec(vec![in alloc; target.devices[0].end()]?);
     let (did, called) = target.app.into_logs();

@@ -1,8 +1,6 @@
-use Rattle.std.proofs.Common.{ℕ, zero, suc, ◌≡◌, ◌∷◌, ◌++◌, List, [], None, true, vec_len}
-use Rattle.lw_model.specs.declared.record.Answer.TheVariants.{Began}
-use Rattle.lw_target.specs.declared.app.App.{App}
+use Rattle.std.proofs.Common.{◌≡◌, ◌∷◌, [], None, true, vec_len}
 use Rattle.lw_target.specs.declared.device.Device.{Device}
-use Rattle.lw_target.specs.App.{SameCalls, unregistered}
+use Rattle.lw_target.specs.App.{SameCalls}
 use Rattle.lw_target.proofs.AppEnding.{begun}
 use Rattle.lw_target.proofs.app.App.begin.Given as goal
 

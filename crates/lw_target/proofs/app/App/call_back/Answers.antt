@@ -1,4 +1,4 @@
-use Rattle.std.proofs.Common.{rules, arith, refl, ap, subst, ◌≡◌, length}
+use Rattle.std.proofs.Common.{rules, arith, ap, subst, ◌≡◌, length}
 use Rattle.lw_target.proofs.AppEnding.{called, called_on, get_or_twice, either}
 use Rattle.lw_target.proofs.app.App.call_back.Goals as goal
 

@@ -1,7 +1,6 @@
-use Rattle.std.proofs.Common.{ℕ, zero, suc, ◌≡◌, ◌≤◌, ◌+◌, ◌∷◌, ◌++◌, List, [], true, false, cond, vec_len}
-use Rattle.lw_target.specs.declared.app.App.{App}
+use Rattle.std.proofs.Common.{◌≡◌, ◌≤◌, ◌+◌, ◌∷◌, [], true, cond, vec_len}
 use Rattle.lw_target.specs.declared.device.Device.{Device}
-use Rattle.lw_target.specs.App.{SameLines, called_back}
+use Rattle.lw_target.specs.App.{SameLines}
 use Rattle.lw_target.specs.Work.{app_work}
 use Rattle.lw_target.proofs.AppEnding.{called}
 use Rattle.lw_target.proofs.app.App.call_back.Given as goal

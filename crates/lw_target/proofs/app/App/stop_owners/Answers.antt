@@ -1,4 +1,4 @@
-use Rattle.std.proofs.Common.{rules, arith, refl, ap, subst, ◌≡◌, length}
+use Rattle.std.proofs.Common.{arith, refl, ap, subst, ◌≡◌, length}
 use Rattle.std.specs.Prelude.{vec_len}
 use Rattle.lw_target.proofs.AppEnding.{stopped}
 use Rattle.lw_target.proofs.app.App.stop_owners.Goals as goal

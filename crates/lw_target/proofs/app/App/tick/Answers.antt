@@ -1,4 +1,4 @@
-use Rattle.std.proofs.Common.{ap, ◌≡◌, ◌∙◌, sym, subst}
+use Rattle.std.proofs.Common.{ap, ◌∙◌, sym, subst}
 use Rattle.std.specs.Prelude.{◌||◌}
 use Rattle.lw_target.specs.App.{Calls}
 use Rattle.lw_target.proofs.AppEnding.{ends_all}

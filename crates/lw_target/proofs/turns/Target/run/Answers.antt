@@ -1,5 +1,4 @@
 use Rattle.std.proofs.Common.{arith, ap, cond, ℕ}
-use Rattle.lw_target.proofs.Whole.{whole}
 use Rattle.lw_target.proofs.Resting.{turned_self, turned_then}
 use Rattle.lw_target.proofs.turns.Target.run.Goals as goal
 

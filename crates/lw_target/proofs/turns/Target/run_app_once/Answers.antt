@@ -1,4 +1,4 @@
-use Rattle.std.proofs.Common.{ap, refl, sym, arith, ◌∙◌, ◌≡◌, [], ◌∷◌, ◌++◌, subst, rules}
+use Rattle.std.proofs.Common.{refl, arith, ◌≡◌, [], ◌∷◌, ◌++◌, subst, rules}
 use Rattle.std.specs.Prelude.{MatchOption}
 use Rattle.lw_target.proofs.Carrying.{waiting_first, weight_some}
 use Rattle.lw_target.proofs.AppTurns.{app_ran}

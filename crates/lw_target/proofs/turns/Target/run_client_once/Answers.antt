@@ -1,6 +1,5 @@
 use Rattle.std.proofs.Common.{ap, refl, sym, arith, ◌∙◌, ◌≡◌, [], ◌∷◌, ◌++◌, subst, rules, map, take, drop, length}
 use Rattle.std.specs.Prelude.{MatchOption}
-use Rattle.std.proofs.lemmas.Grind.{common_steps}
 use Rattle.lw_target.specs.declared.device.Device.{Device}
 use Rattle.lw_target.specs.InOrder.{IsClientInOrder}
 use Rattle.lw_target.proofs.Told.{written_back}
