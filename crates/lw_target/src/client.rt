@@ -48,8 +48,8 @@ pub struct Client {
 }
 
 impl Client {
-    ghost use Rattle.lw_target.specs.Client.{Handled, IsFresh, Listed, Asking, Closing, Telling, Progress};
-    ghost use Rattle.lw_target.specs.ClientCalls.{WentOn};
+    ghost use Rattle.lw_target.specs.Client.{Handled, IsFresh, Listed, Asking, Closing, Paused, Telling, Progress};
+    ghost use Rattle.lw_target.specs.ClientCalls.{Rests, WentOn};
     ghost use Rattle.lw_target.specs.declared.device.Device.{Device};
     ghost use Rattle.lw_target.specs.Answers.{answer_to};
     ghost use Rattle.lw_target.specs.Work.{client_work};
@@ -99,6 +99,7 @@ impl Client {
         requires devices { length devices.old ≡ vec_len self.old.channels }
         ensures progress { IfOk result (λ worked. Progress self.old self.new acts.old acts.new (cond worked 1 0)) }
         ensures went_on { OnOk result (WentOn self.old self.new acts.old acts.new devices.old devices.new) }
+        ensures rests { IfOk result (λ worked. worked ≡ false → Rests self.old self.new acts.old acts.new devices.old devices.new) }
     {
         let mut worked = self.do_some(alloc, devices, acts)?;
         worked |= self.close_at_end(acts)?;
@@ -117,6 +118,7 @@ impl Client {
         ensures progress { IfOk result (λ worked. Progress self.old self.new acts.old acts.new (cond worked 1 0)) }
         ensures most { OnOk result (self.new.next ≤ self.old.next + 8) }
         ensures went_on { OnOk result (WentOn self.old self.new acts.old acts.new devices.old devices.new) }
+        ensures paused { IfOk result (λ worked. worked ≡ false → Paused self.old self.new acts.old acts.new devices.old devices.new) }
     {
         let mut worked = false;
         for _ in 0..OPS_OF_A_TICK {
@@ -139,6 +141,7 @@ impl Client {
         ensures progress { IfOk result (λ worked. Progress self.old self.new acts.old acts.new (cond worked 1 0)) }
         ensures one { IfOk result (λ worked. self.new.next ≡ self.old.next + cond worked 1 0) }
         ensures went_on { OnOk result (WentOn self.old self.new acts.old acts.new devices.old devices.new) }
+        ensures paused { IfOk result (λ worked. worked ≡ false → Paused self.old self.new acts.old acts.new devices.old devices.new) }
     {
         if self.next == self.of.ops.len() {
             return Ok(false);
@@ -224,6 +227,8 @@ impl Client {
         ensures at_end { IfOk result (λ worked. IsTrue worked → (self.old.next ≡ length self.old.of.ops)
             × (vec_len self.old.unanswered ≡ 0)) }
         ensures went_on { OnOk result ((devices : List Device) → WentOn self.old self.new acts.old acts.new devices devices) }
+        ensures waits { IfOk result (λ worked. worked ≡ false → (self.new ≡ self.old) × (acts.new ≡ acts.old)
+            × (self.old.next ≡ length self.old.of.ops → self.old.closed ≡ false → 0 < length self.old.unanswered.items)) }
     {
         if self.closed || self.next < self.of.ops.len() || self.unanswered.len() > 0 {
             return Ok(false);
@@ -267,6 +272,8 @@ impl Client {
         ensures progress { IfOk result (λ worked. Progress self.old self.new acts.old acts.new (cond worked 1 0)) }
         ensures told { IfOk result (λ worked. IsTrue worked → IsTrue self.old.closed × (self.old.standing ≡ 0)) }
         ensures went_on { OnOk result ((devices : List Device) → WentOn self.old self.new acts.old acts.new devices devices) }
+        ensures waits { IfOk result (λ worked. worked ≡ false → (self.new ≡ self.old) × (acts.new ≡ acts.old)
+            × (self.old.done ≡ false → self.old.closed ≡ true → 0 < self.old.standing)) }
     {
         if self.done || !self.closed || self.standing > 0 {
             return Ok(false);
