@@ -1,6 +1,6 @@
 //! A client: it does its ops in order, each when it may, gives back its channels and tells the app.
 ghost use Rattle.std.specs.Prelude.{List, ◌≡◌, ◌<◌, ◌≤◌, ◌+◌, ◌-◌, ◌++◌, ◌∷◌, [], length, vec_len, cond, map, filter, not, ◌==◌, true, false, None, Some, Option, OnOk, IfOk, IfSome, IsTrue, MatchOption, slice_get};
-ghost use Rattle.std.specs.List.{list_all};
+ghost use Rattle.std.specs.List.{All, list_all};
 ghost use Rattle.lw_base.specs.declared.message.What.{What};
 ghost use Rattle.lw_model.specs.Printable.{has_bytes};
 ghost use Rattle.lw_target.specs.Actions.{device_of, action_on};
@@ -49,13 +49,41 @@ pub struct Client {
 
 impl Client {
     ghost use Rattle.lw_target.specs.Client.{Handled, IsFresh, Listed, Asking, Closing, Paused, Telling, Progress};
-    ghost use Rattle.lw_target.specs.ClientCalls.{Rests, WentOn};
+    ghost use Rattle.lw_target.specs.ClientCalls.{AllAgree, Rests, WentOn};
+    ghost use Rattle.lw_target.specs.ClientLog.{Follows, IsOf, sent_so_far, was_refused};
+    ghost use Rattle.lw_model.specs.declared.script.Script.{Script};
     ghost use Rattle.lw_target.specs.declared.device.Device.{Device};
     ghost use Rattle.lw_target.specs.Answers.{answer_to};
     ghost use Rattle.lw_target.specs.Work.{client_work};
 
     /// The client of thread `thread`, before its first op. The owner of device d is thread `first_owner` + d.
     pub fn new(
+        alloc: Global,
+        thread: u32,
+        first_owner: u32,
+        devices: usize,
+        of: ClientOf,
+    ) -> Result<Client, NoMemory>
+        requires owners { first_owner ≤ 65 }
+        requires few { devices ≤ 16 }
+        requires short { length of.ops ≤ 100000 }
+        requires serves { list_all (is_servable devices) of.ops ≡ true }
+        ensures of { IfOk result (λ c. c.of ≡ of) }
+        ensures channels { IfOk result (λ c. vec_len c.channels ≡ devices) }
+        ensures thread { IfOk result (λ c. c.thread ≡ thread) }
+        ensures first_owner { IfOk result (λ c. c.first_owner ≡ first_owner) }
+        ensures fresh { IfOk result IsFresh }
+        ensures follows { IfOk result (λ c. (s : Script) → IsOf s c → Follows s c []) }
+        ensures sent { IfOk result (λ c. (s : Script) → sent_so_far s c [] ≡ []) }
+        ensures refused { IfOk result (λ c. was_refused c [] ≡ false) }
+        ensures agree { IfOk result (λ c. (s : Script) (devices : List Device) → All (λ v. (v.standing ≡ 0) × (v.given ≡ 0)) devices
+            → AllAgree s c [] devices) }
+    {
+        let client = Client::empty(alloc, thread, first_owner, devices, of)?;
+        Ok(client)
+    }
+
+    fn empty(
         alloc: Global,
         thread: u32,
         first_owner: u32,
