@@ -1,11 +1,10 @@
 -- A client that has run and listed nothing.
-use Rattle.std.proofs.Common.{ℕ, ◌≡◌, ◌+◌, ◌≤◌, ◌<◌, Bool, true, false, List, [], ◌∷◌, ◌++◌, length, get_or, arith, refl, sym, ap, ap₂, ◌∙◌, subst, cond, reverse}
-use Rattle.std.specs.Prelude.{count_by, filter_map, Option, Some, None, is_some, slice_get}
+use Rattle.std.proofs.Common.{ℕ, ◌≡◌, ◌+◌, Bool, true, false, List, [], ◌∷◌, ◌++◌, length, arith, refl, sym, ap, ap₂, ◌∙◌, subst, cond, reverse}
+use Rattle.std.specs.Prelude.{count_by, filter_map, Some, None, is_some, slice_get}
 use Rattle.std.specs.List.{All, AllByRecursion, list_any, range_with_len}
 use Rattle.std.proofs.lemmas.Option.{slice_get_within, get_or_from_slice_get}
 use Rattle.std.proofs.lemmas.List.Elements.{All-get_or, recursion_from_All}
 use Rattle.std.proofs.lemmas.List.Sums.{sum_by-cons}
-use Rattle.lw_base.specs.declared.message.What.{What}
 use Rattle.lw_base.specs.declared.message.What.TheVariants as what
 use Rattle.lw_model.specs.declared.script.Script.{Script}
 use Rattle.lw_model.specs.declared.step.Step.{Step}
@@ -20,7 +19,7 @@ use Rattle.lw_target.specs.declared.client.Client.{Client}
 use Rattle.lw_target.specs.declared.device.Device.{Device}
 use Rattle.lw_target.specs.Client.{IsFresh}
 use Rattle.lw_target.specs.ClientLog.{Follows, IsOf, KeepsDevice, log_of, steps_so_far, past_so_far, sent_so_far, sends_of_steps, was_refused, lines_fit, ats_ascend}
-use Rattle.lw_target.specs.ClientCalls.{Agrees, AllAgree}
+use Rattle.lw_target.specs.ClientCalls.{AllAgree}
 
 abbrev IsNothing : Channel → Type 0
 IsNothing k = k ≡ record { ordinal = None; references = 0; pending = 0 }
@@ -78,7 +77,7 @@ pub fresh_agree : (s : Script) (c : Client) (devices : List Device) → IsFresh 
 fresh_agree s c devices f zeros = λ d k v ek ev.
     let zero' : (v.standing ≡ 0) × (v.given ≡ 0) =
     subst (λ (w : Device). (w.standing ≡ 0) × (w.given ≡ 0)) (get_or_from_slice_get devices d v v ev)
-        (All-get_or (λ (w : Device). (w.standing ≡ 0) × (w.given ≡ 0)) devices d v (slice_get_within devices d v ev) zeros) in
+    (All-get_or (λ (w : Device). (w.standing ≡ 0) × (w.given ≡ 0)) devices d v (slice_get_within devices d v ev) zeros) in
     record {
       standing = zero'.0 ∙ sym (ap {B = ℕ} (λ (j : Channel). cond (is_some j.ordinal) 1 0) (kept_nothing c d k f ek));
       given = ap (filter_map (ordinal_given (is_on s c.thread d))) (no_steps c f) ∙ sym (ap (range_with_len 0) zero'.1);

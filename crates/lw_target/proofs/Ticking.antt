@@ -1,8 +1,8 @@
 -- A client's tick, part by part.
-use Rattle.std.proofs.Common.{ℕ, ◌≡◌, ◌+◌, ◌≤◌, ◌<◌, Bool, true, false, List, [], ◌∷◌, ◌++◌, map, reverse, length, arith, refl, sym, ap, ap₂, ◌∙◌, subst, cond, append_assoc, zero-add, get_or, inl, inr}
-use Rattle.std.specs.Prelude.{◌&&◌, ◌||◌, ◌⊎◌, filter_map, count_by, Option, Some, None, is_some, is_none, slice_get, vec_len, nat_lt, nat_le, if◌then◌else◌, ◌==◌, IfSome}
+use Rattle.std.proofs.Common.{ℕ, ◌≡◌, ◌+◌, ◌≤◌, ◌<◌, Bool, true, false, List, [], ◌∷◌, ◌++◌, reverse, length, arith, refl, sym, ap, ap₂, ◌∙◌, subst, cond, append_assoc, get_or, inl, inr}
+use Rattle.std.specs.Prelude.{◌&&◌, ◌||◌, filter_map, count_by, Option, Some, None, is_some, is_none, slice_get, vec_len, nat_lt, nat_le, if◌then◌else◌, ◌==◌, IfSome}
 use Rattle.std.specs.List.{list_any, list_all}
-use Rattle.std.proofs.lemmas.Option.{same_Some, none-some, slice_get-get_or}
+use Rattle.std.proofs.lemmas.Option.{none-some, slice_get-get_or}
 use Rattle.std.proofs.lemmas.Bool.{leb-true}
 use Rattle.std.proofs.lemmas.List.{append-nil, map-append}
 use Rattle.std.proofs.lemmas.List.Elements.{filter_map-append}
@@ -14,7 +14,6 @@ use Rattle.lw_model.specs.declared.script.Script.{Script}
 use Rattle.lw_model.specs.declared.script.Op.{Op}
 use Rattle.lw_model.specs.declared.step.Step.{Step}
 use Rattle.lw_model.specs.declared.record.Did.{Did}
-use Rattle.lw_model.specs.declared.record.Answer.{Answer}
 use Rattle.lw_model.specs.declared.record.Answer.TheVariants as answer
 use Rattle.lw_model.specs.OwnOrder.{own_order}
 use Rattle.lw_model.specs.Threads.{is_on}
@@ -31,18 +30,17 @@ use Rattle.lw_target.specs.declared.mail.Load.TheVariants as load
 use Rattle.lw_target.specs.Actions.{device_of, names_image}
 use Rattle.lw_target.specs.Answers.{answer_to}
 use Rattle.lw_target.specs.Client.{Paused, Telling}
-use Rattle.lw_target.specs.ClientLog.{Follows, KeepsDevice, log_of, steps_so_far, past_so_far, sent_so_far, sends_of_steps, was_refused, lines_fit, ats_ascend, IsHeldUp}
-use Rattle.lw_target.specs.ClientCalls.{WentOn, Rests, Agrees, AllAgree, all_usable, ends_of, pending_of, requested, receivers, putselfs_to}
+use Rattle.lw_target.specs.ClientLog.{Follows, KeepsDevice, log_of, steps_so_far, past_so_far, sends_of_steps, lines_fit, ats_ascend, IsHeldUp}
+use Rattle.lw_target.specs.ClientCalls.{WentOn, Rests, all_usable, ends_of, pending_of, requested, receivers, putselfs_to}
 use Rattle.lw_target.specs.Messages.{Asked}
 use Rattle.std.proofs.Math.Bridge.{le_prop}
 use Rattle.std.proofs.Math.Bool.{Bool-set}
 use Rattle.lw_model.specs.declared.record.Reply.{Reply}
 use Rattle.lw_model.specs.Printable.{has_bytes}
-use Rattle.lw_target.specs.Effects.{AllHold, held_of}
+use Rattle.lw_target.specs.Effects.{AllHold}
 use Rattle.lw_target.specs.Ops.{is_servable}
 use Rattle.lw_target.proofs.RanMessages.{same_script}
 use Rattle.lw_target.proofs.Places.{at_some}
-use Rattle.lw_target.proofs.Listing.{any_reverse}
 
 -- ---- nothing, and one thing behind another
 
@@ -107,7 +105,17 @@ went_none old new acts devices p = record {
 
 pub went_still : (c : Client) (acts : Asked) (devices : List Device) → WentOn c c acts acts devices devices
 went_still c acts devices = went_none c c acts devices (record {
-  thread = refl; first_owner = refl; of = refl; next = refl; channels = refl; standing = refl; unanswered = refl; closed = refl; done = refl; did = refl; replies = refl;
+  thread = refl;
+  first_owner = refl;
+  of = refl;
+  next = refl;
+  channels = refl;
+  standing = refl;
+  unanswered = refl;
+  closed = refl;
+  done = refl;
+  did = refl;
+  replies = refl;
 })
 
 usable_by_ends : (devices : List Device) → all_usable devices ≡ list_all (λ (e : Option ℕ × ℕ). is_none e.0) (ends_of devices)
@@ -230,16 +238,48 @@ held_same n ks = hlevel (le_prop)
 pub same_client : (c : Client) (within : c.next ≤ length c.of.ops) (short : length c.of.ops ≤ 100000) (few : vec_len c.channels ≤ 16) (held : AllHold c.next c.channels.items)
     (owners : c.first_owner ≤ 65) (serves : list_all (is_servable (vec_len c.channels)) c.of.ops ≡ true) (replied : list_all (λ (r : Reply). has_bytes r.answer) c.replies ≡ true)
     → ◌≡◌ {A = Client} (record {
-      thread = c.thread; first_owner = c.first_owner; of = c.of; next = c.next; channels = c.channels; standing = c.standing; unanswered = c.unanswered; closed = c.closed; done = c.done;
-      did = c.did; replies = c.replies; within = within; short = short; few = few; held = held; owners = owners; serves = serves; replied = replied;
+      thread = c.thread;
+      first_owner = c.first_owner;
+      of = c.of;
+      next = c.next;
+      channels = c.channels;
+      standing = c.standing;
+      unanswered = c.unanswered;
+      closed = c.closed;
+      done = c.done;
+      did = c.did;
+      replies = c.replies;
+      within = within;
+      short = short;
+      few = few;
+      held = held;
+      owners = owners;
+      serves = serves;
+      replied = replied;
     }) c
 same_client c within short few held owners serves replied =
     let of = λ (w : c.next ≤ length c.of.ops) (s : length c.of.ops ≤ 100000) (f : vec_len c.channels ≤ 16) (h : AllHold c.next c.channels.items) (o : c.first_owner ≤ 65)
-        (v : list_all (is_servable (vec_len c.channels)) c.of.ops ≡ true) (r : list_all (λ (r : Reply). has_bytes r.answer) c.replies ≡ true).
-        let q : Client = record {
-          thread = c.thread; first_owner = c.first_owner; of = c.of; next = c.next; channels = c.channels; standing = c.standing; unanswered = c.unanswered; closed = c.closed; done = c.done;
-          did = c.did; replies = c.replies; within = w; short = s; few = f; held = h; owners = o; serves = v; replied = r;
-        } in q in
+    (v : list_all (is_servable (vec_len c.channels)) c.of.ops ≡ true) (r : list_all (λ (r : Reply). has_bytes r.answer) c.replies ≡ true).
+    let q : Client = record {
+      thread = c.thread;
+      first_owner = c.first_owner;
+      of = c.of;
+      next = c.next;
+      channels = c.channels;
+      standing = c.standing;
+      unanswered = c.unanswered;
+      closed = c.closed;
+      done = c.done;
+      did = c.did;
+      replies = c.replies;
+      within = w;
+      short = s;
+      few = f;
+      held = h;
+      owners = o;
+      serves = v;
+      replied = r;
+    } in q in
     ap (λ (w : c.next ≤ length c.of.ops). of w short few held owners serves replied) (within_same within c.within)
     ∙ ap (λ (s : length c.of.ops ≤ 100000). of c.within s few held owners serves replied) (within_same short c.short)
     ∙ ap (λ (f : vec_len c.channels ≤ 16). of c.within c.short f held owners serves replied) (within_same few c.few)

@@ -174,10 +174,7 @@ impl Client {
         if self.next == self.of.ops.len() {
             return Ok(false);
         }
-        let action = action_of(
-            &self.of.ops.as_slice()[self.next],
-            self.channels.len(),
-        );
+        let action = action_of(&self.of.ops.as_slice()[self.next], self.channels.len());
         let Some(answer) = self.answer(action, devices) else {
             return Ok(false);
         };

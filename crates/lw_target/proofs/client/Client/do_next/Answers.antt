@@ -47,12 +47,32 @@ returns-clause-one c = (done c).handled.next
 
 pub returns-then-self-len-clause-went_on : goal.returns-then-self-len-clause-went_on
 returns-then-self-len-clause-went_on c = went_none _ _ _ _ (record {
-  thread = refl; first_owner = refl; of = refl; next = refl; channels = refl; standing = refl; unanswered = refl; closed = refl; done = refl; did = refl; replies = refl;
+  thread = refl;
+  first_owner = refl;
+  of = refl;
+  next = refl;
+  channels = refl;
+  standing = refl;
+  unanswered = refl;
+  closed = refl;
+  done = refl;
+  did = refl;
+  replies = refl;
 })
 
 pub returns-in_default-clause-went_on : goal.returns-in_default-clause-went_on
 returns-in_default-clause-went_on c = went_none _ _ _ _ (record {
-  thread = refl; first_owner = refl; of = refl; next = refl; channels = refl; standing = refl; unanswered = refl; closed = refl; done = refl; did = refl; replies = refl;
+  thread = refl;
+  first_owner = refl;
+  of = refl;
+  next = refl;
+  channels = refl;
+  standing = refl;
+  unanswered = refl;
+  closed = refl;
+  done = refl;
+  did = refl;
+  replies = refl;
 })
 
 pub returns-clause-went_on : goal.returns-clause-went_on

@@ -1,6 +1,6 @@
 use Rattle.std.proofs.Common.{true, false, ℕ, ◌≡◌, Bool, cond, ap, arith}
 use Rattle.lw_target.proofs.Steps.{progress_then}
-use Rattle.lw_target.proofs.Ticking.{went_then, went_still}
+use Rattle.lw_target.proofs.Ticking.{went_then}
 use Rattle.lw_target.proofs.client.Client.do_some.Goals as goal
 
 pub returns-then-not-branch-clause-went_on : goal.returns-then-not-branch-clause-went_on
