@@ -1,10 +1,10 @@
 -- What a client's next op changes of its log, of its sends and of the devices.
-use Rattle.std.proofs.Common.{ℕ, ◌≡◌, ◌+◌, ◌-◌, ◌≤◌, ◌<◌, Bool, true, false, ◌&&◌, List, [], ◌∷◌, ◌++◌, map, reverse, length, arith, refl, sym, ap, ap₂, ◌∙◌, subst, cond, append_assoc}
-use Rattle.std.specs.Prelude.{not, ◌||◌, ◌==◌, filter_map, count_by, Option, Some, None, option_map, is_some, is_none, slice_get, slice_set}
-use Rattle.std.specs.List.{list_any, range_with_len, list_all}
+use Rattle.std.proofs.Common.{ℕ, ◌≡◌, ◌+◌, ◌≤◌, Bool, true, false, ◌&&◌, List, [], ◌∷◌, ◌++◌, length, arith, refl, sym, ap, ap₂, ◌∙◌, cond, append_assoc}
+use Rattle.std.specs.Prelude.{◌==◌, filter_map, Option, Some, None, option_map, is_some, is_none, slice_get}
+use Rattle.std.specs.List.{list_any, range_with_len}
 use Rattle.std.proofs.lemmas.Option.{same_Some, none-some}
-use Rattle.std.proofs.lemmas.Bool.{eqb-true, eq-eqb}
-use Rattle.std.proofs.lemmas.List.{append-nil, length-append, map-append}
+use Rattle.std.proofs.lemmas.Bool.{eqb-true}
+use Rattle.std.proofs.lemmas.List.{append-nil, map-append}
 use Rattle.std.proofs.lemmas.List.Elements.{filter_map-append}
 use Rattle.std.proofs.lemmas.List.FromFn.{length-range_with_len}
 use Rattle.std.proofs.lemmas.List.Sums.{sum_by-append}
@@ -12,20 +12,17 @@ use Rattle.lw_base.specs.declared.message.Tag.{Tag}
 use Rattle.lw_base.specs.declared.message.What.{What}
 use Rattle.lw_base.specs.declared.message.What.TheVariants as what
 use Rattle.lw_model.specs.declared.script.Script.{Script}
-use Rattle.lw_model.specs.declared.step.Step.{Step}
 use Rattle.lw_model.specs.declared.step.Step.TheVariants as step
-use Rattle.lw_model.specs.declared.record.Did.{Did}
 use Rattle.lw_model.specs.declared.record.Answer.{Answer}
-use Rattle.lw_model.specs.declared.record.Answer.TheVariants as answer
 use Rattle.lw_model.specs.Threads.{is_on}
-use Rattle.lw_model.specs.Holding.{says, always, is_sent, is_deferred, is_putself, ordinal_given}
+use Rattle.lw_model.specs.Holding.{says, always, is_deferred, is_putself, ordinal_given}
 use Rattle.lw_model.specs.Devices.{is_refusal}
 use Rattle.lw_target.specs.declared.acts.Outgoing.{Outgoing}
 use Rattle.lw_target.specs.declared.channel.Channel.{Channel}
 use Rattle.lw_target.specs.declared.client.Client.{Client}
 use Rattle.lw_target.specs.declared.device.Device.{Device}
-use Rattle.lw_target.specs.ClientLog.{Follows, steps_so_far, past_so_far, sent_so_far, sends_of, sends_of_steps, was_refused}
-use Rattle.lw_target.specs.ClientCalls.{WentOn, Agrees, AllAgree, all_usable, ends_of, pending_of, requested, receivers, putselfs_to}
+use Rattle.lw_target.specs.ClientLog.{Follows, steps_so_far, past_so_far, sent_so_far, sends_of_steps, was_refused}
+use Rattle.lw_target.specs.ClientCalls.{WentOn, AllAgree, all_usable, ends_of, pending_of, requested, receivers, putselfs_to}
 use Rattle.lw_target.specs.Actions.{action_on, device_of}
 use Rattle.lw_target.specs.Effects.{channel_after, device_after, sends_after}
 use Rattle.lw_target.specs.Messages.{Asked}
@@ -33,7 +30,7 @@ use Rattle.lw_target.proofs.LogGrowth.{steps_did, sends_push, any_push}
 use Rattle.lw_target.proofs.Places.{got, map_kept}
 use Rattle.lw_target.proofs.RanMessages.{came_from}
 use Rattle.lw_target.proofs.Handling.{OpDone}
-use Rattle.lw_target.proofs.Listing.{Known, known, line_of, list_all_found, on_op, op_follows, requested_by, putselfs_by, sends_by, pending_after, none_usable, ends_after, stands_after, given_after}
+use Rattle.lw_target.proofs.Listing.{known, line_of, list_all_found, on_op, op_follows, requested_by, putselfs_by, sends_by, pending_after, none_usable, ends_after, stands_after, given_after}
 
 -- what the op sent
 abbrev outs_of : (old new : Client) (before after : Asked) (devices devices' : List Device) → OpDone old new before after devices devices' → List Outgoing

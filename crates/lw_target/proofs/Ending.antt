@@ -1,9 +1,9 @@
 -- What a client's close and its message to the app change of its log, of its sends and of the devices.
-use Rattle.std.proofs.Common.{ℕ, zero, suc, ◌≡◌, ◌+◌, ◌-◌, ◌≤◌, ◌<◌, Bool, true, false, ◌&&◌, List, [], ◌∷◌, ◌++◌, map, reverse, length, arith, refl, sym, ap, ap₂, ◌∙◌, subst, cond, append_assoc, nat_lt, nat_le, zero-add}
-use Rattle.std.specs.Prelude.{not, ◌||◌, ◌==◌, filter, filter_map, count_by, Option, Some, None, option_map, is_some, is_none, slice_get, vec_len}
-use Rattle.std.specs.List.{cons_option, list_any, range_with_len, list_all}
-use Rattle.std.proofs.lemmas.Option.{same_Some, none-some, slice_get-map, slice_get_past}
-use Rattle.std.proofs.lemmas.Bool.{eqb-true, eq-eqb, ne_eqb, le-leb, and_from}
+use Rattle.std.proofs.Common.{ℕ, zero, suc, ◌≡◌, ◌+◌, ◌≤◌, ◌<◌, Bool, true, false, ◌&&◌, List, [], ◌∷◌, ◌++◌, map, reverse, length, arith, refl, sym, ap, ap₂, ◌∙◌, subst, cond, append_assoc, nat_lt, zero-add}
+use Rattle.std.specs.Prelude.{◌==◌, filter, filter_map, count_by, Option, Some, None, option_map, is_some, slice_get}
+use Rattle.std.specs.List.{cons_option, list_any, range_with_len}
+use Rattle.std.proofs.lemmas.Option.{slice_get-map, slice_get_past}
+use Rattle.std.proofs.lemmas.Bool.{eq-eqb, ne_eqb, le-leb}
 use Rattle.std.proofs.lemmas.List.{append-nil, length-append, length-map, map-append, length-reverse}
 use Rattle.std.proofs.lemmas.List.Elements.{filter_map-append}
 use Rattle.std.proofs.lemmas.List.Sums.{sum_by-append, sum_by-cons}
@@ -18,15 +18,15 @@ use Rattle.lw_model.specs.declared.record.Did.{Did}
 use Rattle.lw_model.specs.declared.record.Answer.TheVariants as answer
 use Rattle.lw_model.specs.Threads.{is_on, op_at, ops_of}
 use Rattle.lw_model.specs.Holding.{says, always, is_closed, is_putself, references, ordinal_given}
-use Rattle.lw_model.specs.Answers.{unanswered, unanswered_on, answer_fits}
+use Rattle.lw_model.specs.Answers.{unanswered, answer_fits}
 use Rattle.lw_model.specs.Devices.{is_refusal}
 use Rattle.lw_target.specs.declared.acts.Outgoing.{Outgoing}
 use Rattle.lw_target.specs.declared.channel.Channel.{Channel}
 use Rattle.lw_target.specs.declared.client.Client.{Client}
 use Rattle.lw_target.specs.declared.device.Device.{Device}
-use Rattle.lw_target.specs.ClientLog.{Follows, KeepsDevice, steps_so_far, past_so_far, sent_so_far, sends_of_steps, was_refused, line_fits, lines_fit, ats_ascend}
-use Rattle.lw_target.specs.ClientCalls.{WentOn, Agrees, AllAgree, all_usable, ends_of, pending_of, requested, receivers, putselfs_to}
-use Rattle.lw_target.specs.Client.{Closing, Telling}
+use Rattle.lw_target.specs.ClientLog.{Follows, KeepsDevice, steps_so_far, past_so_far, sent_so_far, sends_of_steps, line_fits, lines_fit, ats_ascend}
+use Rattle.lw_target.specs.ClientCalls.{WentOn, AllAgree, pending_of, requested, receivers, putselfs_to}
+use Rattle.lw_target.specs.Client.{Closing}
 use Rattle.lw_target.specs.Effects.{gave_back, puts_of, putself_of}
 use Rattle.lw_target.specs.Messages.{Asked}
 use Rattle.lw_target.proofs.LogGrowth.{steps_did, past_push, fit_push, sends_push, any_push, ats_push}
@@ -94,7 +94,7 @@ puts_sends refs t d (k ∷ ks) h =
   where
     at : (b : Bool) → map (λ (e : ℕ). (t, what.PutSelf e)) (filter (λ e. nat_lt 0 (refs e)) (range_with_len (d + 1) (length ks))) ≡ receivers (puts_of t (d + 1) ks)
         → map (λ (e : ℕ). (t, what.PutSelf e)) (cond b (d ∷ filter (λ e. nat_lt 0 (refs e)) (range_with_len (d + 1) (length ks))) (filter (λ e. nat_lt 0 (refs e)) (range_with_len (d + 1) (length ks))))
-            ≡ receivers (cond b (putself_of t d ∷ puts_of t (d + 1) ks) (puts_of t (d + 1) ks))
+        ≡ receivers (cond b (putself_of t d ∷ puts_of t (d + 1) ks) (puts_of t (d + 1) ks))
     at true e = ap (λ q. (t, what.PutSelf d) ∷ q) e
     at false e = e
 
@@ -140,8 +140,8 @@ close_follows s old new ran before after f h at =
     let behind : op_at s old.thread i ≡ None =
     ap (λ (q : List Op). slice_get q i) h.of.ops ∙ slice_get_past old.of.ops i (omega (arith, number, f.ended)) in
     let fits : line_fits s old.thread past (step.Did i x) ≡ true = five (eq-eqb old.next i (sym number))
-        (le-leb i (length (ops_of s old.thread)) (omega (arith, number, f.ended, ap length h.of.ops)))
-        (ap (λ (o : Option Op). answer_fits s old.thread past o answer.Closed) behind ∙ eq-eqb (length (unanswered past)) 0 none) refl refl in
+    (le-leb i (length (ops_of s old.thread)) (omega (arith, number, f.ended, ap length h.of.ops)))
+    (ap (λ (o : Option Op). answer_fits s old.thread past o answer.Closed) behind ∙ eq-eqb (length (unanswered past)) 0 none) refl refl in
     record {
       of = same_script s old new p.thread p.first_owner p.of (omega (arith, old.channels.ok.0, new.channels.ok.0, simp length-map at (ap length p.channels))) h.of;
       listed = ap length p.did ∙ length-append old.did (x ∷ []) ∙ omega (arith, number, p.next, ap {B = ℕ} (λ (b : Bool). cond b 1 0) p.closed);

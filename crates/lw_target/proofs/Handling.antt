@@ -89,8 +89,14 @@ op_progress old new before after devices devices' f =
       sends = λ all. All-same (IsOfOps old.of.ops) after.sends (before.sends ++ outs) sends
           (All-append (IsOfOps old.of.ops) before.sends outs all
           (sends_of_ops old.of.ops f.answer old.thread old.first_owner (device_of (action_on f.op)) old.next f.op f.found asks));
-      work = omega (arith, f.more, work, ap asked_work sends, sum_by-append (λ (s : Outgoing). weight s.what) before.sends outs,
-          sends_work f.answer old.thread old.first_owner (device_of (action_on f.op)) old.next f.op);
+      work = omega (
+        arith,
+        f.more,
+        work,
+        ap asked_work sends,
+        sum_by-append (λ (s : Outgoing). weight s.what) before.sends outs,
+        sends_work f.answer old.thread old.first_owner (device_of (action_on f.op)) old.next f.op,
+      );
     }
 
 pub close_progress : (old new : Client) (before after : Asked) → old.closed ≡ false → Closing old new before after → Progress old new before after 1

@@ -33,7 +33,7 @@ puts_push thread d (j ∷ ks) k = at (nat_lt 0 j.references)
   where
     at : (b : Bool) → puts_of thread (d + 1) (ks ++ k ∷ []) ≡ puts_of thread (d + 1) ks ++ cond (nat_lt 0 k.references) (putself_of thread (d + length (j ∷ ks)) ∷ []) []
         → cond b (putself_of thread d ∷ puts_of thread (d + 1) (ks ++ k ∷ [])) (puts_of thread (d + 1) (ks ++ k ∷ []))
-            ≡ cond b (putself_of thread d ∷ puts_of thread (d + 1) ks) (puts_of thread (d + 1) ks) ++ cond (nat_lt 0 k.references) (putself_of thread (d + length (j ∷ ks)) ∷ []) []
+        ≡ cond b (putself_of thread d ∷ puts_of thread (d + 1) ks) (puts_of thread (d + 1) ks) ++ cond (nat_lt 0 k.references) (putself_of thread (d + length (j ∷ ks)) ∷ []) []
     at true e = ap (λ q. putself_of thread d ∷ q) e
     at false e = e
 

@@ -1,8 +1,8 @@
 -- What a client keeps of a device, one step on.
-use Rattle.std.proofs.Common.{ℕ, zero, suc, ◌≡◌, ◌+◌, ◌-◌, ◌≤◌, ◌<◌, ◌≢◌, Bool, true, false, ◌&&◌, List, [], ◌∷◌, length, arith, refl, sym, ap, ap₂, ◌∙◌, nat_lt, subst, cond, IsTrue}
+use Rattle.std.proofs.Common.{ℕ, ◌≡◌, ◌+◌, ◌-◌, ◌≤◌, ◌<◌, Bool, true, false, ◌&&◌, List, [], ◌∷◌, length, arith, refl, sym, ap, ap₂, ◌∙◌, nat_lt, cond, IsTrue}
 use Rattle.std.specs.Prelude.{filter, not, ◌||◌, Option, Some, None, is_some, count_by, ◌==◌}
 use Rattle.std.specs.List.{list_any}
-use Rattle.std.proofs.lemmas.Bool.{eqb-true, eq-eqb, ne_eqb, eqb-false, ltb-true, ltb-false}
+use Rattle.std.proofs.lemmas.Bool.{eqb-true, eqb-false, ltb-true, ltb-false}
 use Rattle.std.proofs.lemmas.List.Sums.{sum_by-cons}
 use Rattle.lw_base.specs.declared.message.Tag.{Tag}
 use Rattle.lw_model.specs.declared.script.Script.{Script}
@@ -15,7 +15,7 @@ use Rattle.lw_model.specs.Threads.{is_on}
 use Rattle.lw_model.specs.Answers.{unanswered, unanswered_on}
 use Rattle.lw_base.specs.declared.message.What.{What}
 use Rattle.lw_base.specs.declared.message.What.TheVariants as what
-use Rattle.lw_model.specs.Holding.{says, always, is_closed, is_sent, is_deferred, is_putself, gains, loses, defers, runs, destroys, references, pending, held, ordinal_given}
+use Rattle.lw_model.specs.Holding.{says, always, is_closed, is_sent, is_deferred, is_putself, gains, loses, references, pending, held, ordinal_given}
 use Rattle.lw_target.specs.declared.channel.Channel.{Channel}
 use Rattle.lw_target.specs.Effects.{channel_after, after_put, gave_back}
 use Rattle.lw_target.specs.ClientLog.{KeepsDevice}
@@ -129,7 +129,7 @@ keeps_other s t i d past x k off going h =
     let closed : (true && is_closed x.answer) ≡ false = going in
     let same : references on (step.Did i x ∷ past) ≡ references on past =
     ap₂ (λ (b : Bool) (n : ℕ). cond (b || list_any (says always is_closed) past) 0 n) closed
-        (ap₂ (λ (g l : ℕ). g - l) (count_none on gains past i x (no gains)) (count_none on loses past i x (no loses))) in
+    (ap₂ (λ (g l : ℕ). g - l) (count_none on gains past i x (no gains)) (count_none on loses past i x (no loses))) in
     record {
       ordinal = ap (λ (o : Option ℕ). elim o as (λ q. Option ℕ) [ Some n ↦ Some n | None ↦ held on d past ]) (ordinal_off (on x.op) x.answer off) ∙ h.ordinal;
       references = same ∙ h.references;

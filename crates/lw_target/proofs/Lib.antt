@@ -23,6 +23,7 @@ mod Listing
 mod Doing
 mod Ending
 mod Ticking
+mod Beginning
 mod Carrying
 mod Turning
 mod Accepted

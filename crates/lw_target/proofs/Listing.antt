@@ -1,16 +1,15 @@
 -- A client's log and state agree behind an op that it did, and behind its close.
-use Rattle.std.proofs.Common.{ℕ, zero, suc, ◌≡◌, ◌+◌, ◌-◌, ◌≤◌, ◌<◌, Bool, true, false, ◌&&◌, List, [], ◌∷◌, ◌++◌, map, reverse, length, arith, refl, sym, ap, ap₂, ◌∙◌, subst, cond, nat_lt, nat_le, append_assoc, add-one, zero-add}
-use Rattle.std.specs.Prelude.{not, ◌||◌, ◌==◌, filter, filter_map, count_by, min, Option, Some, None, option_map, option_to_list, option_and_then, is_some, is_none, slice_get, slice_set, vec_len, if◌then◌else◌}
+use Rattle.std.proofs.Common.{ℕ, zero, suc, ◌≡◌, ◌+◌, ◌≤◌, ◌<◌, Bool, true, false, ◌&&◌, List, [], ◌∷◌, ◌++◌, reverse, length, arith, refl, sym, ap, ap₂, ◌∙◌, subst, cond, nat_lt, nat_le, add-one, zero-add}
+use Rattle.std.specs.Prelude.{not, ◌||◌, ◌==◌, filter, filter_map, count_by, Option, Some, None, option_map, option_to_list, option_and_then, is_some, is_none, slice_get, vec_len, if◌then◌else◌}
 use Rattle.std.specs.List.{list_any, range_with_len, list_all, cons_option}
-use Rattle.std.proofs.lemmas.Option.{same_Some, none-some, slice_get_within}
-use Rattle.std.proofs.lemmas.Bool.{eqb-true, eqb-false, eq-eqb, ne_eqb, and_from, and_parts, le-leb, lt-ltb, ltb-true, ltb-false, leb-false}
+use Rattle.std.proofs.lemmas.Option.{same_Some, none-some}
+use Rattle.std.proofs.lemmas.Bool.{eqb-true, eqb-false, eq-eqb, and_from, and_parts, le-leb, lt-ltb, ltb-true, ltb-false, leb-false}
 use Rattle.std.proofs.Math.ListN.{length-set}
-use Rattle.std.proofs.lemmas.List.{append-nil, length-append, map-append, length-reverse}
+use Rattle.std.proofs.lemmas.List.{append-nil, length-append, length-reverse}
 use Rattle.std.proofs.lemmas.List.Folds.{list_any-append}
 use Rattle.std.proofs.lemmas.List.Elements.{filter_map-append, filter_agree}
-use Rattle.std.proofs.lemmas.List.Sums.{sum_by-append, count_by-le-length}
+use Rattle.std.proofs.lemmas.List.Sums.{count_by-le-length}
 use Rattle.lw_base.specs.declared.message.Tag.{Tag}
-use Rattle.lw_base.specs.declared.message.What.{What}
 use Rattle.lw_base.specs.declared.message.What.TheVariants as what
 use Rattle.lw_model.specs.declared.script.Script.{Script}
 use Rattle.lw_model.specs.declared.script.Op.{Op}
@@ -22,26 +21,23 @@ use Rattle.lw_model.specs.declared.record.Answer.{Answer}
 use Rattle.lw_model.specs.declared.record.Answer.TheVariants as answer
 use Rattle.lw_model.specs.ScriptRules.{image_of}
 use Rattle.lw_model.specs.Threads.{is_on, is_client, ops_of, depth_of, op_at, image_at, owner_of}
-use Rattle.lw_model.specs.Holding.{says, always, is_closed, is_sent, is_deferred, is_started, is_putself, gains, loses, references, pending, held, ordinal_given}
-use Rattle.lw_model.specs.Answers.{unanswered, unanswered_on, answer_fits, depth_fits, get_fits, put_fits, request_fits}
+use Rattle.lw_model.specs.Holding.{says, always, is_closed, is_sent, is_deferred, is_started, loses, references, held, ordinal_given}
+use Rattle.lw_model.specs.Answers.{unanswered, unanswered_on, answer_fits, depth_fits, get_fits, request_fits}
 use Rattle.lw_model.specs.Devices.{is_refusal}
-use Rattle.lw_target.specs.declared.action.Action.{Action}
-use Rattle.lw_target.specs.declared.action.Action.TheVariants as action
 use Rattle.lw_target.specs.declared.acts.Outgoing.{Outgoing}
 use Rattle.lw_target.specs.declared.channel.Channel.{Channel}
 use Rattle.lw_target.specs.declared.client.Client.{Client}
 use Rattle.lw_target.specs.declared.device.Device.{Device}
-use Rattle.lw_target.specs.ClientLog.{Follows, IsOf, KeepsDevice, steps_so_far, past_so_far, sent_so_far, sends_of, sends_of_steps, was_refused, line_fits, lines_fit, ats_ascend}
-use Rattle.lw_target.specs.ClientCalls.{WentOn, Agrees, AllAgree, all_usable, ends_of, pending_of, requested, receivers, putselfs_to}
+use Rattle.lw_target.specs.ClientLog.{Follows, KeepsDevice, steps_so_far, past_so_far, sends_of, line_fits, lines_fit, ats_ascend}
+use Rattle.lw_target.specs.ClientCalls.{requested, receivers, putselfs_to}
 use Rattle.lw_target.specs.Actions.{action_on, device_of, names_image}
-use Rattle.lw_target.specs.Answers.{get_answer, put_answer, request_answer, answer_to}
-use Rattle.lw_target.specs.Client.{Handled, Closing}
-use Rattle.lw_target.specs.Effects.{channel_after, standing_after, device_after, sends_after, putself_of, request_of, gave_back, puts_of}
+use Rattle.lw_target.specs.Answers.{get_answer, answer_to}
+use Rattle.lw_target.specs.Effects.{channel_after, standing_after, device_after, sends_after}
 use Rattle.lw_target.specs.Messages.{Asked}
 use Rattle.lw_target.specs.Ops.{is_servable}
-use Rattle.lw_target.proofs.LogGrowth.{steps_did, past_push, fit_push, sends_push, any_push, ats_push, reverse_cons}
-use Rattle.lw_target.proofs.Kept.{and_false, IsApt, keeps_other, keeps_op, keeps_closed}
-use Rattle.lw_target.proofs.Places.{got, got_same, map_kept, counted}
+use Rattle.lw_target.proofs.LogGrowth.{steps_did, past_push, fit_push, ats_push, reverse_cons}
+use Rattle.lw_target.proofs.Kept.{and_false, IsApt, keeps_other, keeps_op}
+use Rattle.lw_target.proofs.Places.{got, counted}
 use Rattle.lw_target.proofs.RanMessages.{same_script, came_from}
 use Rattle.lw_target.proofs.Handling.{OpDone}
 
@@ -341,8 +337,13 @@ waiting_more false u us = append-nil (reverse us)
 
 gets_more : (on : ℕ → Bool) (steps : List Step) (i : ℕ) (x : Did) (n : ℕ) → length (filter_map (ordinal_given on) steps) ≤ n → length (filter_map (ordinal_given on) (steps ++ step.Did i x ∷ [])) ≤ n + 1
 gets_more on steps i x n h =
-    omega (arith, h, ap length (filter_map-append (ordinal_given on) steps (step.Did i x ∷ [])), length-append (filter_map (ordinal_given on) steps) (filter_map (ordinal_given on) (step.Did i x ∷ [])),
-    one (ordinal_given on (step.Did i x)))
+    omega (
+      arith,
+      h,
+      ap length (filter_map-append (ordinal_given on) steps (step.Did i x ∷ [])),
+      length-append (filter_map (ordinal_given on) steps) (filter_map (ordinal_given on) (step.Did i x ∷ [])),
+      one (ordinal_given on (step.Did i x)),
+    )
   where
     one : (o : Option ℕ) → length (cons_option o []) ≤ 1
     one None = omega arith
@@ -370,9 +371,9 @@ op_follows s old new ran before after devices devices' f h at =
     let now : past_so_far new ran ≡ step.Did i x ∷ past = ap reverse grown ∙ past_push steps (step.Did i x) in
     let open'' : (true && is_closed a || list_any (says always is_closed) past) ≡ false = ap (λ (b : Bool). b || list_any (says always is_closed) past) w.facts.going ∙ w.open' in
     let fits : line_fits s old.thread past (step.Did i x) ≡ true = five (eq-eqb old.next i (sym w.number))
-        (le-leb i (length (ops_of s old.thread)) (omega (arith, w.number, f.more, ap length h.of.ops)))
-        (ap (λ (n : ℕ). answer_fits s old.thread past (op_at s old.thread n) a) w.number ∙ ap (λ (o : Option Op). answer_fits s old.thread past o a) w.op ∙ w.facts.fits)
-        w.facts.deep (ap not w.facts.unstarted) in
+    (le-leb i (length (ops_of s old.thread)) (omega (arith, w.number, f.more, ap length h.of.ops)))
+    (ap (λ (n : ℕ). answer_fits s old.thread past (op_at s old.thread n) a) w.number ∙ ap (λ (o : Option Op). answer_fits s old.thread past o a) w.op ∙ w.facts.fits)
+    w.facts.deep (ap not w.facts.unstarted) in
     record {
       of = same_script s old new p.thread p.first_owner p.of (omega (arith, old.channels.ok.0, new.channels.ok.0, simp length-set at (ap length p.channels))) h.of;
       listed = ap length p.did ∙ length-append old.did (x ∷ []) ∙ omega (arith, w.number, p.next, ap {B = ℕ} (λ (b : Bool). cond b 1 0) (p.closed ∙ w.going));

@@ -1,11 +1,11 @@
 -- A client's log, one line on.
-use Rattle.std.proofs.Common.{ℕ, ◌≡◌, ◌+◌, ◌≤◌, ◌<◌, Bool, true, false, ◌&&◌, List, [], ◌∷◌, ◌++◌, map, reverse, length, append_assoc, arith, refl, sym, ap, ◌∙◌, nat_le, subst}
-use Rattle.std.specs.Prelude.{cond, not, filter, ◌||◌, filter_map, Option, Some, None}
-use Rattle.std.specs.List.{list_all, list_any, flat_map, AllByRecursion, enumerate_from}
+use Rattle.std.proofs.Common.{ℕ, ◌≡◌, ◌+◌, ◌≤◌, Bool, true, false, ◌&&◌, List, [], ◌∷◌, ◌++◌, map, reverse, length, arith, refl, sym, ap, ◌∙◌, nat_le, subst}
+use Rattle.std.specs.Prelude.{cond, filter}
+use Rattle.std.specs.List.{list_all, list_any, flat_map, AllByRecursion}
 use Rattle.std.proofs.lemmas.Bool.{le-leb, leb-true, and_from, and_parts}
-use Rattle.std.proofs.lemmas.List.{map-append, reverse-append, append-nil}
+use Rattle.std.proofs.lemmas.List.{reverse-append, append-nil}
 use Rattle.std.proofs.lemmas.List.Folds.{list_all-append, list_any-append}
-use Rattle.std.proofs.lemmas.List.Elements.{filter-append, filter_map-append}
+use Rattle.std.proofs.lemmas.List.Elements.{filter-append}
 use Rattle.std.proofs.lemmas.Grind.{flat_map-append}
 use Rattle.lw_base.specs.declared.message.Tag.{Tag}
 use Rattle.lw_base.specs.declared.message.What.{What}
@@ -15,9 +15,9 @@ use Rattle.lw_model.specs.declared.step.Step.TheVariants as step
 use Rattle.lw_model.specs.declared.record.Did.{Did}
 use Rattle.lw_model.specs.OwnOrder.{own_order, with_past}
 use Rattle.lw_model.specs.Answers.{at_fits}
-use Rattle.lw_model.proofs.Growth.{AtMost, own_order-run, own_order-list, with_past_push}
+use Rattle.lw_model.proofs.Growth.{own_order-run, own_order-list, with_past_push}
 use Rattle.lw_target.specs.declared.client.Client.{Client}
-use Rattle.lw_target.specs.ClientLog.{log_of, steps_so_far, past_so_far, sends_of, sends_of_steps, line_fits, lines_fit, ats_ascend}
+use Rattle.lw_target.specs.ClientLog.{log_of, steps_so_far, sends_of, sends_of_steps, line_fits, lines_fit, ats_ascend}
 
 -- ---- the AT of its lines
 

@@ -1,8 +1,8 @@
 -- A client's log and state agree behind a message that it ran.
-use Rattle.std.proofs.Common.{ℕ, ◌≡◌, ◌+◌, ◌-◌, ◌≤◌, ◌<◌, Bool, true, false, ◌&&◌, List, [], ◌∷◌, ◌++◌, map, reverse, length, arith, refl, sym, ap, ap₂, ◌∙◌, subst, cond, get_or}
+use Rattle.std.proofs.Common.{ℕ, ◌≡◌, ◌+◌, ◌-◌, ◌≤◌, ◌<◌, Bool, true, false, ◌&&◌, List, [], ◌∷◌, ◌++◌, reverse, length, arith, refl, sym, ap, ap₂, ◌∙◌, subst, cond, get_or}
 use Rattle.std.specs.Prelude.{IfSome, not, ◌||◌, ◌==◌, filter, filter_map, count_by, Option, Some, None, option_map, option_to_list, is_some, is_none, slice_get, slice_set, vec_len}
 use Rattle.std.specs.List.{list_any, range_with_len}
-use Rattle.std.proofs.lemmas.Option.{slice_get-get_or, same_Some, none-some, slice_get_within, slice_get_past}
+use Rattle.std.proofs.lemmas.Option.{slice_get-get_or, same_Some, none-some, slice_get_within}
 use Rattle.std.proofs.lemmas.Bool.{eqb-true, ne_eqb}
 use Rattle.std.proofs.Math.ListN.{length-set}
 use Rattle.std.proofs.lemmas.List.{append-nil, length-append}
@@ -24,7 +24,7 @@ use Rattle.lw_target.specs.declared.device.Device.{Device}
 use Rattle.lw_target.specs.declared.mail.Mail.{Mail}
 use Rattle.lw_target.specs.declared.mail.Load.{Load}
 use Rattle.lw_target.specs.ClientLog.{Follows, IsOf, KeepsDevice, steps_so_far, past_so_far, sent_so_far, sends_of_steps, was_refused, lines_fit, ats_ascend}
-use Rattle.lw_target.specs.ClientCalls.{RanMessage, Agrees, AllAgree, ends_of, still_unanswered, pending_of, reply_carried}
+use Rattle.lw_target.specs.ClientCalls.{RanMessage, AllAgree, ends_of, still_unanswered, reply_carried}
 use Rattle.lw_target.specs.Client.{Received, TookPut}
 use Rattle.lw_target.specs.Effects.{after_put, is_destroyed, devices_after}
 use Rattle.lw_target.specs.Work.{client_work}
@@ -275,22 +275,32 @@ devices_put old devices devices' m d k v is kept seen changed = record { each = 
 
     at : (e : ℕ) (v' : Device) → slice_get devices' e ≡ Some v' → (x : Bool) → is_destroyed k ≡ x → (b : Bool) → (d == e) ≡ b
         → (w : Device) × (slice_get devices e ≡ Some w) × (v'.given ≡ w.given)
-            × ((j : Channel) → slice_get old.channels.items e ≡ Some j → w.standing ≡ cond (is_some j.ordinal) 1 0 → v'.standing ≡ cond (is_some (after_message (is_putself e m.what) j).ordinal) 1 0)
-    at e v' ev false ex false eb =
-        (v', ap (λ l. slice_get l e) (sym (changed ∙ ap (λ (c : Bool). cond c (slice_set devices d (record v { standing = v.standing - 1 })) devices) ex)) ∙ ev, refl,
-        λ j ej h. same_devices (is_putself e m.what) (tested e false eb) v' j h)
-    at e v' ev false ex true eb =
-        (v', ap (λ l. slice_get l e) (sym (changed ∙ ap (λ (c : Bool). cond c (slice_set devices d (record v { standing = v.standing - 1 })) devices) ex)) ∙ ev, refl,
-        λ j ej h.
-            let r = released j v' h in
-            let gone : ◌≡◌ {A = ℕ} (cond (is_destroyed j) 1 0) 0 = ap (λ (q : Channel). cond (is_destroyed q) 1 0) (sym (same e j eb ej)) ∙ ap (λ (c : Bool). cond c 1 0) ex in
-            omega (arith, r, gone) ∙ ap (λ (c : Bool). cond (is_some (after_message c j).ordinal) 1 0) (sym (tested e true eb)))
+        × ((j : Channel) → slice_get old.channels.items e ≡ Some j → w.standing ≡ cond (is_some j.ordinal) 1 0 → v'.standing ≡ cond (is_some (after_message (is_putself e m.what) j).ordinal) 1 0)
+    at e v' ev false ex false eb = (
+      v',
+      ap (λ l. slice_get l e) (sym (changed ∙ ap (λ (c : Bool). cond c (slice_set devices d (record v { standing = v.standing - 1 })) devices) ex)) ∙ ev,
+      refl,
+      λ j ej h. same_devices (is_putself e m.what) (tested e false eb) v' j h,
+    )
+    at e v' ev false ex true eb = (
+      v',
+      ap (λ l. slice_get l e) (sym (changed ∙ ap (λ (c : Bool). cond c (slice_set devices d (record v { standing = v.standing - 1 })) devices) ex)) ∙ ev,
+      refl,
+      λ j ej h.
+          let r = released j v' h in
+          let gone : ◌≡◌ {A = ℕ} (cond (is_destroyed j) 1 0) 0 = ap (λ (q : Channel). cond (is_destroyed q) 1 0) (sym (same e j eb ej)) ∙ ap (λ (c : Bool). cond c 1 0) ex in
+          omega (arith, r, gone) ∙ ap (λ (c : Bool). cond (is_some (after_message c j).ordinal) 1 0) (sym (tested e true eb)),
+    )
     at e v' ev true ex b eb =
         let set : devices' ≡ slice_set devices d (lesser v) = changed ∙ ap (λ (c : Bool). cond c (slice_set devices d (lesser v)) devices) ex in
         let w = came_from (λ (y : Device). cond (d == e) (lesser y) y) (slice_get devices e) v' (sym (got lesser devices d v seen e) ∙ ap (λ l. slice_get l e) (sym set) ∙ ev) in
-        let became : cond b (lesser w.0) w.0 ≡ v' = ap (λ (c : Bool). cond c (lesser w.0) w.0) (sym eb) ∙ w.2 in
-        (w.0, w.1, one b w.0 v' became, λ j ej h.
-            stood b (d == e) eb w.0 v' j became h (λ t. ap is_destroyed (sym (same e j (eb ∙ t) ej)) ∙ ex) ∙ ap (λ (c : Bool). cond (is_some (after_message c j).ordinal) 1 0) (sym (tested e b eb)))
+        let became : cond b (lesser w.0) w.0 ≡ v' = ap (λ (c : Bool). cond c (lesser w.0) w.0) (sym eb) ∙ w.2 in (
+          w.0,
+          w.1,
+          one b w.0 v' became,
+          λ j ej h.
+              stood b (d == e) eb w.0 v' j became h (λ t. ap is_destroyed (sym (same e j (eb ∙ t) ej)) ∙ ex) ∙ ap (λ (c : Bool). cond (is_some (after_message c j).ordinal) 1 0) (sym (tested e b eb)),
+        )
       where
         one : (b : Bool) (w v' : Device) → cond b (lesser w) w ≡ v' → v'.given ≡ w.given
         one true w v' is' = ap (λ (q : Device). q.given) (sym is')

@@ -1,8 +1,8 @@
 -- A client's tick, part by part.
-use Rattle.std.proofs.Common.{ℕ, ◌≡◌, ◌+◌, ◌≤◌, ◌<◌, Bool, true, false, List, [], ◌∷◌, ◌++◌, map, reverse, length, arith, refl, sym, ap, ap₂, ◌∙◌, subst, cond, append_assoc, zero-add}
-use Rattle.std.specs.Prelude.{◌&&◌, ◌||◌, ◌⊎◌, filter_map, count_by, Option, Some, None, is_some, is_none, slice_get, vec_len, nat_lt, nat_le, if◌then◌else◌, ◌==◌, IfSome}
+use Rattle.std.proofs.Common.{ℕ, ◌≡◌, ◌+◌, ◌≤◌, ◌<◌, Bool, true, false, List, [], ◌∷◌, ◌++◌, reverse, length, arith, refl, sym, ap, ap₂, ◌∙◌, subst, cond, append_assoc, get_or, inl, inr}
+use Rattle.std.specs.Prelude.{◌&&◌, ◌||◌, filter_map, count_by, Option, Some, None, is_some, is_none, slice_get, vec_len, nat_lt, nat_le, if◌then◌else◌, ◌==◌, IfSome}
 use Rattle.std.specs.List.{list_any, list_all}
-use Rattle.std.proofs.lemmas.Option.{same_Some, none-some}
+use Rattle.std.proofs.lemmas.Option.{none-some, slice_get-get_or}
 use Rattle.std.proofs.lemmas.Bool.{leb-true}
 use Rattle.std.proofs.lemmas.List.{append-nil, map-append}
 use Rattle.std.proofs.lemmas.List.Elements.{filter_map-append}
@@ -14,7 +14,6 @@ use Rattle.lw_model.specs.declared.script.Script.{Script}
 use Rattle.lw_model.specs.declared.script.Op.{Op}
 use Rattle.lw_model.specs.declared.step.Step.{Step}
 use Rattle.lw_model.specs.declared.record.Did.{Did}
-use Rattle.lw_model.specs.declared.record.Answer.{Answer}
 use Rattle.lw_model.specs.declared.record.Answer.TheVariants as answer
 use Rattle.lw_model.specs.OwnOrder.{own_order}
 use Rattle.lw_model.specs.Threads.{is_on}
@@ -28,14 +27,20 @@ use Rattle.lw_target.specs.declared.channel.Channel.{Channel}
 use Rattle.lw_target.specs.declared.client.Client.{Client}
 use Rattle.lw_target.specs.declared.device.Device.{Device}
 use Rattle.lw_target.specs.declared.mail.Load.TheVariants as load
-use Rattle.lw_target.specs.Actions.{names_image}
+use Rattle.lw_target.specs.Actions.{device_of, names_image}
 use Rattle.lw_target.specs.Answers.{answer_to}
-use Rattle.lw_target.specs.Client.{Telling}
-use Rattle.lw_target.specs.ClientLog.{Follows, KeepsDevice, log_of, steps_so_far, past_so_far, sent_so_far, sends_of_steps, was_refused, lines_fit, ats_ascend, IsHeldUp}
-use Rattle.lw_target.specs.ClientCalls.{WentOn, Rests, Agrees, AllAgree, all_usable, ends_of, pending_of, requested, receivers, putselfs_to}
+use Rattle.lw_target.specs.Client.{Paused, Telling}
+use Rattle.lw_target.specs.ClientLog.{Follows, KeepsDevice, log_of, steps_so_far, past_so_far, sends_of_steps, lines_fit, ats_ascend, IsHeldUp}
+use Rattle.lw_target.specs.ClientCalls.{WentOn, Rests, all_usable, ends_of, pending_of, requested, receivers, putselfs_to}
 use Rattle.lw_target.specs.Messages.{Asked}
+use Rattle.std.proofs.Math.Bridge.{le_prop}
+use Rattle.std.proofs.Math.Bool.{Bool-set}
+use Rattle.lw_model.specs.declared.record.Reply.{Reply}
+use Rattle.lw_model.specs.Printable.{has_bytes}
+use Rattle.lw_target.specs.Effects.{AllHold}
+use Rattle.lw_target.specs.Ops.{is_servable}
 use Rattle.lw_target.proofs.RanMessages.{same_script}
-use Rattle.lw_target.proofs.Listing.{any_reverse}
+use Rattle.lw_target.proofs.Places.{at_some}
 
 -- ---- nothing, and one thing behind another
 
@@ -100,7 +105,17 @@ went_none old new acts devices p = record {
 
 pub went_still : (c : Client) (acts : Asked) (devices : List Device) → WentOn c c acts acts devices devices
 went_still c acts devices = went_none c c acts devices (record {
-  thread = refl; first_owner = refl; of = refl; next = refl; channels = refl; standing = refl; unanswered = refl; closed = refl; done = refl; did = refl; replies = refl;
+  thread = refl;
+  first_owner = refl;
+  of = refl;
+  next = refl;
+  channels = refl;
+  standing = refl;
+  unanswered = refl;
+  closed = refl;
+  done = refl;
+  did = refl;
+  replies = refl;
 })
 
 usable_by_ends : (devices : List Device) → all_usable devices ≡ list_all (λ (e : Option ℕ × ℕ). is_none e.0) (ends_of devices)
@@ -208,3 +223,112 @@ waits_for ops waiting depth (action.Ask d) v k deep e = at (k.references == 0) (
     at true full ef e = absurd (none-some _ e)
     at false true ef e = let least = leb-true depth (length waiting) ef in omega (arith, least, deep)
     at false false ef e = absurd (none-some _ e)
+
+-- ---- a client with the same data is the same
+
+within_same : {m n : ℕ} (a b : m ≤ n) → a ≡ b
+within_same a b = le_prop a b
+
+true_same : (b : Bool) (p q : b ≡ true) → p ≡ q
+true_same b p q = Bool-set b true p q
+
+held_same : (n : ℕ) (ks : List Channel) (a b : AllHold n ks) → a ≡ b
+held_same n ks = hlevel (le_prop)
+
+pub same_client : (c : Client) (within : c.next ≤ length c.of.ops) (short : length c.of.ops ≤ 100000) (few : vec_len c.channels ≤ 16) (held : AllHold c.next c.channels.items)
+    (owners : c.first_owner ≤ 65) (serves : list_all (is_servable (vec_len c.channels)) c.of.ops ≡ true) (replied : list_all (λ (r : Reply). has_bytes r.answer) c.replies ≡ true)
+    → ◌≡◌ {A = Client} (record {
+      thread = c.thread;
+      first_owner = c.first_owner;
+      of = c.of;
+      next = c.next;
+      channels = c.channels;
+      standing = c.standing;
+      unanswered = c.unanswered;
+      closed = c.closed;
+      done = c.done;
+      did = c.did;
+      replies = c.replies;
+      within = within;
+      short = short;
+      few = few;
+      held = held;
+      owners = owners;
+      serves = serves;
+      replied = replied;
+    }) c
+same_client c within short few held owners serves replied =
+    let of = λ (w : c.next ≤ length c.of.ops) (s : length c.of.ops ≤ 100000) (f : vec_len c.channels ≤ 16) (h : AllHold c.next c.channels.items) (o : c.first_owner ≤ 65)
+    (v : list_all (is_servable (vec_len c.channels)) c.of.ops ≡ true) (r : list_all (λ (r : Reply). has_bytes r.answer) c.replies ≡ true).
+    let q : Client = record {
+      thread = c.thread;
+      first_owner = c.first_owner;
+      of = c.of;
+      next = c.next;
+      channels = c.channels;
+      standing = c.standing;
+      unanswered = c.unanswered;
+      closed = c.closed;
+      done = c.done;
+      did = c.did;
+      replies = c.replies;
+      within = w;
+      short = s;
+      few = f;
+      held = h;
+      owners = o;
+      serves = v;
+      replied = r;
+    } in q in
+    ap (λ (w : c.next ≤ length c.of.ops). of w short few held owners serves replied) (within_same within c.within)
+    ∙ ap (λ (s : length c.of.ops ≤ 100000). of c.within s few held owners serves replied) (within_same short c.short)
+    ∙ ap (λ (f : vec_len c.channels ≤ 16). of c.within c.short f held owners serves replied) (within_same few c.few)
+    ∙ ap (λ (h : AllHold c.next c.channels.items). of c.within c.short c.few h owners serves replied) (held_same c.next c.channels.items held c.held)
+    ∙ ap (λ (o : c.first_owner ≤ 65). of c.within c.short c.few c.held o serves replied) (within_same owners c.owners)
+    ∙ ap (λ (v : list_all (is_servable (vec_len c.channels)) c.of.ops ≡ true). of c.within c.short c.few c.held c.owners v replied) (true_same _ serves c.serves)
+    ∙ ap (λ (r : list_all (λ (r : Reply). has_bytes r.answer) c.replies ≡ true). of c.within c.short c.few c.held c.owners c.serves r) (true_same _ replied c.replied)
+
+pub waits_known : (old : Client) (devices : List Device) (act : Action) → device_of act < vec_len old.channels → length devices ≡ vec_len old.channels → 1 ≤ old.of.depth
+    → IfSome (slice_get devices (device_of act)) (λ v. IfSome (slice_get old.channels.items (device_of act)) (λ k. None ≡ answer_to old.of.ops old.unanswered.items old.of.depth act v k))
+    → 0 < length old.unanswered.items
+waits_known old devices act within same deep e =
+    let d = device_of act in
+    let k0 : Channel = record { ordinal = None; references = 0; pending = 0 } in
+    let v0 : Device = record { standing = 0; given = 0; shut_by = None; callbacks = 0 } in
+    let kept = slice_get-get_or old.channels.items d k0 (omega (arith, within, old.channels.ok.0)) in
+    let seen = slice_get-get_or devices d v0 (omega (arith, within, same)) in
+    waits_for old.of.ops old.unanswered.items old.of.depth act (get_or devices d v0) (get_or old.channels.items d k0) deep
+    (at_some (slice_get old.channels.items d) (λ k. None ≡ answer_to old.of.ops old.unanswered.items old.of.depth act (get_or devices d v0) k) (get_or old.channels.items d k0) kept
+    (at_some (slice_get devices d) (λ v. IfSome (slice_get old.channels.items d) (λ k. None ≡ answer_to old.of.ops old.unanswered.items old.of.depth act v k)) (get_or devices d v0) seen e))
+
+no_either : (p q : Bool) → (p || q) ≡ false → (p ≡ false) × (q ≡ false)
+no_either false false e = (refl, refl)
+no_either false true e = let wrong : true ≡ false = e in cc
+no_either true q e = let wrong : true ≡ false = e in cc
+
+-- a tick of which no part did anything
+pub rests_all : (a b c d : Client) (w x y z : Asked) (ds es : List Device) (p q r : Bool)
+    → (p ≡ false → Paused a b w x ds es) → (q ≡ false → (c ≡ b) × (y ≡ x) × (b.next ≡ length b.of.ops → b.closed ≡ false → 0 < length b.unanswered.items))
+    → (r ≡ false → (d ≡ c) × (z ≡ y) × (c.done ≡ false → c.closed ≡ true → 0 < c.standing)) → ((p || q) || r) ≡ false → Rests a d w z ds es
+rests_all a b c d w x y z ds es p q r f g h e =
+    let outer = no_either (p || q) r e in
+    let inner = no_either p q outer.0 in
+    let one = f inner.0 in
+    let two = g inner.1 in
+    let three = h outer.1 in
+    let back : c ≡ a = two.0 ∙ one.client in
+    record {
+      client = three.0 ∙ back;
+      acts = three.1 ∙ two.1 ∙ one.acts;
+      same = one.same;
+      held_up = λ undone deep. elim (one.held_up deep) [
+        | inr some ↦ inl some
+        | inl ended ↦ at a.closed refl undone ended
+            (λ open'. subst (λ (c : Client). c.next ≡ length c.of.ops → c.closed ≡ false → 0 < length c.unanswered.items) one.client two.2 ended open')
+            (λ closed. subst (λ (c : Client). c.done ≡ false → c.closed ≡ true → 0 < c.standing) back three.2 undone closed)
+      ];
+    }
+  where
+    at : (b : Bool) → a.closed ≡ b → a.done ≡ false → a.next ≡ length a.of.ops → (a.closed ≡ false → 0 < length a.unanswered.items) → (a.closed ≡ true → 0 < a.standing) → IsHeldUp a
+    at true e undone ended p q = inr (e, q e)
+    at false e undone ended p q = inl (p e)

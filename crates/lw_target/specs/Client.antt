@@ -1,5 +1,5 @@
 -- What a client does and asks for.
-use Rattle.std.specs.Prelude.{ℕ, ◌≡◌, ◌+◌, ◌-◌, ◌≤◌, vec_len, option_to_list, cond, [], ◌∷◌, ◌++◌, slice_set, map, true, false, None}
+use Rattle.std.specs.Prelude.{List, ◌<◌, ◌⊎◌, length, ℕ, ◌≡◌, ◌+◌, ◌-◌, ◌≤◌, vec_len, option_to_list, cond, [], ◌∷◌, ◌++◌, slice_set, map, true, false, None}
 use Rattle.std.specs.List.{All}
 use Rattle.lw_model.specs.declared.script.Op.{Op}
 use Rattle.lw_model.specs.declared.record.Answer.{Answer}
@@ -7,6 +7,7 @@ use Rattle.lw_model.specs.declared.record.Answer.TheVariants as answer
 use Rattle.lw_model.specs.Holding.{is_sent}
 use Rattle.lw_target.specs.declared.channel.Channel.{Channel}
 use Rattle.lw_target.specs.declared.client.Client.{Client}
+use Rattle.lw_target.specs.declared.device.Device.{Device}
 use Rattle.lw_target.specs.declared.mail.Load.{Load}
 use Rattle.lw_target.specs.declared.mail.Load.TheVariants as load
 use Rattle.lw_base.specs.declared.message.What.TheVariants as what
@@ -85,6 +86,13 @@ pub record Closing (old new : Client) (before after : Asked) : Type 0 where
   pub standing : new.standing ≡ old.standing
   pub unanswered : new.unanswered.items ≡ old.unanswered.items
   pub acts : after ≡ record before { sends = before.sends ++ puts_of old.thread 0 old.channels.items }
+
+-- nothing was done: no op is left, or the next one waits for a reply
+pub record Paused (old new : Client) (before after : Asked) (devices devices' : List Device) : Type 0 where
+  pub client : new ≡ old
+  pub acts : after ≡ before
+  pub same : devices' ≡ devices
+  pub held_up : 1 ≤ old.of.depth → (old.next ≡ length old.of.ops) ⊎ (0 < length old.unanswered.items)
 
 -- the client told the app that it is done
 pub record Telling (old new : Client) (before after : Asked) : Type 0 where

@@ -1,5 +1,5 @@
 -- What a client has listed and run so far, and how what it keeps agrees with that.
-use Rattle.std.specs.Prelude.{ℕ, ◌+◌, ◌≡◌, ◌<◌, ◌≤◌, ◌⊎◌, ◌==◌, nat_le, Bool, true, false, cond, ◌&&◌, not, is_some, IsTrue, List, [], ◌∷◌, ◌++◌, length, map, reverse, Option, Some, None, option_to_list, option_map, slice_get, vec_len, count_by, filter_map}
+use Rattle.std.specs.Prelude.{ℕ, ◌+◌, ◌≡◌, ◌<◌, ◌≤◌, ◌⊎◌, ◌==◌, nat_le, Bool, true, cond, ◌&&◌, not, is_some, IsTrue, List, [], ◌∷◌, ◌++◌, length, map, reverse, Some, option_to_list, option_map, slice_get, vec_len, count_by, filter_map}
 use Rattle.std.specs.List.{list_all, list_any, flat_map}
 use Rattle.lw_base.specs.declared.message.Tag.{Tag}
 use Rattle.lw_base.specs.declared.message.What.{What}

@@ -1,6 +1,6 @@
 //! A client: it does its ops in order, each when it may, gives back its channels and tells the app.
 ghost use Rattle.std.specs.Prelude.{List, ◌≡◌, ◌<◌, ◌≤◌, ◌+◌, ◌-◌, ◌++◌, ◌∷◌, [], length, vec_len, cond, map, filter, not, ◌==◌, true, false, None, Some, Option, OnOk, IfOk, IfSome, IsTrue, MatchOption, slice_get};
-ghost use Rattle.std.specs.List.{list_all};
+ghost use Rattle.std.specs.List.{All, list_all};
 ghost use Rattle.lw_base.specs.declared.message.What.{What};
 ghost use Rattle.lw_model.specs.Printable.{has_bytes};
 ghost use Rattle.lw_target.specs.Actions.{device_of, action_on};
@@ -48,14 +48,42 @@ pub struct Client {
 }
 
 impl Client {
-    ghost use Rattle.lw_target.specs.Client.{Handled, IsFresh, Listed, Asking, Closing, Telling, Progress};
-    ghost use Rattle.lw_target.specs.ClientCalls.{WentOn};
+    ghost use Rattle.lw_target.specs.Client.{Handled, IsFresh, Listed, Asking, Closing, Paused, Telling, Progress};
+    ghost use Rattle.lw_target.specs.ClientCalls.{AllAgree, Rests, WentOn};
+    ghost use Rattle.lw_target.specs.ClientLog.{Follows, IsOf, sent_so_far, was_refused};
+    ghost use Rattle.lw_model.specs.declared.script.Script.{Script};
     ghost use Rattle.lw_target.specs.declared.device.Device.{Device};
     ghost use Rattle.lw_target.specs.Answers.{answer_to};
     ghost use Rattle.lw_target.specs.Work.{client_work};
 
     /// The client of thread `thread`, before its first op. The owner of device d is thread `first_owner` + d.
     pub fn new(
+        alloc: Global,
+        thread: u32,
+        first_owner: u32,
+        devices: usize,
+        of: ClientOf,
+    ) -> Result<Client, NoMemory>
+        requires owners { first_owner ≤ 65 }
+        requires few { devices ≤ 16 }
+        requires short { length of.ops ≤ 100000 }
+        requires serves { list_all (is_servable devices) of.ops ≡ true }
+        ensures of { IfOk result (λ c. c.of ≡ of) }
+        ensures channels { IfOk result (λ c. vec_len c.channels ≡ devices) }
+        ensures thread { IfOk result (λ c. c.thread ≡ thread) }
+        ensures first_owner { IfOk result (λ c. c.first_owner ≡ first_owner) }
+        ensures fresh { IfOk result IsFresh }
+        ensures follows { IfOk result (λ c. (s : Script) → IsOf s c → Follows s c []) }
+        ensures sent { IfOk result (λ c. (s : Script) → sent_so_far s c [] ≡ []) }
+        ensures refused { IfOk result (λ c. was_refused c [] ≡ false) }
+        ensures agree { IfOk result (λ c. (s : Script) (devices : List Device) → All (λ v. (v.standing ≡ 0) × (v.given ≡ 0)) devices
+            → AllAgree s c [] devices) }
+    {
+        let client = Client::empty(alloc, thread, first_owner, devices, of)?;
+        Ok(client)
+    }
+
+    fn empty(
         alloc: Global,
         thread: u32,
         first_owner: u32,
@@ -99,6 +127,7 @@ impl Client {
         requires devices { length devices.old ≡ vec_len self.old.channels }
         ensures progress { IfOk result (λ worked. Progress self.old self.new acts.old acts.new (cond worked 1 0)) }
         ensures went_on { OnOk result (WentOn self.old self.new acts.old acts.new devices.old devices.new) }
+        ensures rests { IfOk result (λ worked. worked ≡ false → Rests self.old self.new acts.old acts.new devices.old devices.new) }
     {
         let mut worked = self.do_some(alloc, devices, acts)?;
         worked |= self.close_at_end(acts)?;
@@ -117,6 +146,7 @@ impl Client {
         ensures progress { IfOk result (λ worked. Progress self.old self.new acts.old acts.new (cond worked 1 0)) }
         ensures most { OnOk result (self.new.next ≤ self.old.next + 8) }
         ensures went_on { OnOk result (WentOn self.old self.new acts.old acts.new devices.old devices.new) }
+        ensures paused { IfOk result (λ worked. worked ≡ false → Paused self.old self.new acts.old acts.new devices.old devices.new) }
     {
         let mut worked = false;
         for _ in 0..OPS_OF_A_TICK {
@@ -139,14 +169,12 @@ impl Client {
         ensures progress { IfOk result (λ worked. Progress self.old self.new acts.old acts.new (cond worked 1 0)) }
         ensures one { IfOk result (λ worked. self.new.next ≡ self.old.next + cond worked 1 0) }
         ensures went_on { OnOk result (WentOn self.old self.new acts.old acts.new devices.old devices.new) }
+        ensures paused { IfOk result (λ worked. worked ≡ false → Paused self.old self.new acts.old acts.new devices.old devices.new) }
     {
         if self.next == self.of.ops.len() {
             return Ok(false);
         }
-        let action = action_of(
-            &self.of.ops.as_slice()[self.next],
-            self.channels.len(),
-        );
+        let action = action_of(&self.of.ops.as_slice()[self.next], self.channels.len());
         let Some(answer) = self.answer(action, devices) else {
             return Ok(false);
         };
@@ -224,6 +252,8 @@ impl Client {
         ensures at_end { IfOk result (λ worked. IsTrue worked → (self.old.next ≡ length self.old.of.ops)
             × (vec_len self.old.unanswered ≡ 0)) }
         ensures went_on { OnOk result ((devices : List Device) → WentOn self.old self.new acts.old acts.new devices devices) }
+        ensures waits { IfOk result (λ worked. worked ≡ false → (self.new ≡ self.old) × (acts.new ≡ acts.old)
+            × (self.old.next ≡ length self.old.of.ops → self.old.closed ≡ false → 0 < length self.old.unanswered.items)) }
     {
         if self.closed || self.next < self.of.ops.len() || self.unanswered.len() > 0 {
             return Ok(false);
@@ -267,6 +297,8 @@ impl Client {
         ensures progress { IfOk result (λ worked. Progress self.old self.new acts.old acts.new (cond worked 1 0)) }
         ensures told { IfOk result (λ worked. IsTrue worked → IsTrue self.old.closed × (self.old.standing ≡ 0)) }
         ensures went_on { OnOk result ((devices : List Device) → WentOn self.old self.new acts.old acts.new devices devices) }
+        ensures waits { IfOk result (λ worked. worked ≡ false → (self.new ≡ self.old) × (acts.new ≡ acts.old)
+            × (self.old.done ≡ false → self.old.closed ≡ true → 0 < self.old.standing)) }
     {
         if self.done || !self.closed || self.standing > 0 {
             return Ok(false);

@@ -89,11 +89,11 @@ impl Client {
         ensures reply { result ≡ reply_carried (what.Reply op) load }
         ensures bytes { IfSome result (λ r. has_bytes r.answer ≡ true) }
     {
-    match load {
-        Load::Replied(answer) => Some(Reply { op, answer }),
-        Load::Write { .. } => None,
-        Load::Read { .. } => None,
-        Load::Nothing => None,
-    }
+        match load {
+            Load::Replied(answer) => Some(Reply { op, answer }),
+            Load::Write { .. } => None,
+            Load::Read { .. } => None,
+            Load::Nothing => None,
+        }
     }
 }

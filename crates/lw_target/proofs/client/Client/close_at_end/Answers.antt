@@ -1,4 +1,4 @@
-use Rattle.std.proofs.Common.{◌≡◌, ◌<◌, length, arith}
+use Rattle.std.proofs.Common.{arith}
 use Rattle.lw_target.proofs.Ending.{Closes, close_went_on}
 use Rattle.lw_target.proofs.Handling.{close_progress}
 use Rattle.lw_target.proofs.client.Client.close_at_end.Goals as goal

@@ -1,10 +1,10 @@
-use Rattle.std.proofs.Common.{arith, ap, sym, ◌∙◌, get_or, List, refl}
+use Rattle.std.proofs.Common.{inr, arith, ap, sym, ◌∙◌, get_or, List, refl}
 use Rattle.std.specs.Prelude.{slice_set, slice_get}
 use Rattle.std.proofs.lemmas.Option.{IfSome_then}
 use Rattle.lw_model.specs.declared.script.Op.{Op}
 use Rattle.lw_target.specs.declared.device.Device.{Device}
 use Rattle.lw_target.proofs.Doing.{op_went_on}
-use Rattle.lw_target.proofs.Ticking.{went_none}
+use Rattle.lw_target.proofs.Ticking.{went_none, same_client, waits_known}
 use Rattle.lw_target.proofs.Handling.{OpDone, calls_did, op_progress}
 use Rattle.lw_target.proofs.client.Client.do_next.Goals as goal
 
@@ -47,13 +47,42 @@ returns-clause-one c = (done c).handled.next
 
 pub returns-then-self-len-clause-went_on : goal.returns-then-self-len-clause-went_on
 returns-then-self-len-clause-went_on c = went_none _ _ _ _ (record {
-  thread = refl; first_owner = refl; of = refl; next = refl; channels = refl; standing = refl; unanswered = refl; closed = refl; done = refl; did = refl; replies = refl;
+  thread = refl;
+  first_owner = refl;
+  of = refl;
+  next = refl;
+  channels = refl;
+  standing = refl;
+  unanswered = refl;
+  closed = refl;
+  done = refl;
+  did = refl;
+  replies = refl;
 })
 
 pub returns-in_default-clause-went_on : goal.returns-in_default-clause-went_on
 returns-in_default-clause-went_on c = went_none _ _ _ _ (record {
-  thread = refl; first_owner = refl; of = refl; next = refl; channels = refl; standing = refl; unanswered = refl; closed = refl; done = refl; did = refl; replies = refl;
+  thread = refl;
+  first_owner = refl;
+  of = refl;
+  next = refl;
+  channels = refl;
+  standing = refl;
+  unanswered = refl;
+  closed = refl;
+  done = refl;
+  did = refl;
+  replies = refl;
 })
 
 pub returns-clause-went_on : goal.returns-clause-went_on
 returns-clause-went_on c = op_went_on _ _ _ _ _ _ (done c)
+
+pub returns-in_default-clause-paused : goal.returns-in_default-clause-paused
+returns-in_default-clause-paused c = λ e. record {
+  client = same_client c.args.self.now _ _ _ _ _ _ _;
+  acts = refl;
+  same = refl;
+  held_up = λ deep. inr (waits_known c.args.self.now c.args.devices.now c.action_of-action.result
+      (omega (arith, c.action_of-action.ensures.device, c.len-2.ensures)) c.requires.devices deep c.in_default.ensures);
+}

@@ -1,6 +1,6 @@
-use Rattle.std.proofs.Common.{ℕ, ◌≡◌, Bool, cond, ap, arith}
+use Rattle.std.proofs.Common.{true, false, ℕ, ◌≡◌, Bool, cond, ap, arith}
 use Rattle.lw_target.proofs.Steps.{progress_then}
-use Rattle.lw_target.proofs.Ticking.{went_then, went_still}
+use Rattle.lw_target.proofs.Ticking.{went_then}
 use Rattle.lw_target.proofs.client.Client.do_some.Goals as goal
 
 pub returns-then-not-branch-clause-went_on : goal.returns-then-not-branch-clause-went_on
@@ -14,5 +14,6 @@ loop-preserved c =
     record {
       progress = progress_then _ _ _ _ _ _ _ _ _ i.progress h.progress (omega (arith, one));
       went_on = went_then _ _ _ _ _ _ _ _ _ i.went_on h.went_on;
+      still = λ e. let wrong : true ≡ false = e in cc;
       most = omega (arith, i.most, h.one, one);
     }

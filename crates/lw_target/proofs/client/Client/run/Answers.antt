@@ -1,14 +1,8 @@
-use Rattle.std.proofs.Common.{ℕ, ◌≡◌, ◌<◌, false, length, List, [], ◌∷◌, Some, refl, ap, sym, ◌∙◌, arith, get_or, None}
-use Rattle.std.specs.Prelude.{slice_get, vec_len}
+use Rattle.std.proofs.Common.{ℕ, ◌≡◌, ◌<◌, false, length, refl, ap, arith}
+use Rattle.std.specs.Prelude.{slice_get}
 use Rattle.std.proofs.lemmas.Option.{IfSome_then}
-use Rattle.lw_target.specs.declared.channel.Channel.{Channel}
-use Rattle.lw_target.specs.declared.device.Device.{Device}
-use Rattle.lw_target.specs.Client.{Received, TookPut}
-use Rattle.lw_target.specs.Effects.{devices_after}
 use Rattle.lw_model.specs.Holding.{is_putself}
-use Rattle.lw_target.specs.Work.{client_work}
-use Rattle.lw_target.proofs.Places.{at_some}
-use Rattle.lw_target.proofs.RanMessages.{RanStep, DevicesRan, ran_message, ran_agree, devices_stay, devices_put, ends_put, step_reply, replies_reply, replies_stay, step_none, step_put, put_past, no_reply_put, not_putself, PutTaken, put_taken, same_work}
+use Rattle.lw_target.proofs.RanMessages.{RanStep, ran_message, ran_agree, devices_stay, devices_put, ends_put, step_reply, replies_reply, replies_stay, step_none, step_put, put_past, no_reply_put, not_putself, PutTaken, put_taken, same_work}
 use Rattle.lw_target.proofs.client.Client.run.Goals as goal
 
 -- ---- a put of a device that is not there
