@@ -1,5 +1,5 @@
 -- The first state is sound.
-use Rattle.std.proofs.Common.{◌≡◌, ◌≤◌, ◌<◌, ◌⊎◌, inl, inr, ℕ, zero, suc, ◌+◌, ◌-◌, ◌*◌, ◌%◌, Bool, false, List, [], ◌∷◌, ◌++◌, length, refl, sym, ap, ◌∙◌, arith, slice_index_or, replicate}
+use Rattle.std.proofs.Common.{◌≡◌, ◌≤◌, ◌<◌, inl, inr, ℕ, zero, suc, ◌+◌, ◌-◌, ◌*◌, ◌%◌, Bool, false, List, [], ◌∷◌, refl, arith, slice_index_or, replicate}
 use Rattle.std.proofs.lemmas.List.{length-replicate, get_or_append_left, get_or-append_right}
 use Rattle.std.proofs.Math.Nat.{mod-lt}
 use Rattle.std.proofs.lemmas.Bool.{cases_lt}
@@ -7,12 +7,11 @@ use Rattle.lw_base.specs.declared.world_state.Standing.{Standing}
 use Rattle.lw_base.specs.declared.world_state.Standing.TheVariants as standing
 use Rattle.lw_base.specs.declared.world_state.Stage.{Stage}
 use Rattle.lw_base.specs.declared.world_state.Stage.TheVariants as stage
-use Rattle.lw_base.specs.Sums.{at}
 use Rattle.lw_base.specs.Tally.{Counts}
 use Rattle.lw_base.specs.Register.{Registered, tabulate}
-use Rattle.lw_base.specs.World.{State, IsKept, first_state}
-use Rattle.lw_base.specs.WorldParts.{Parts, IsSound, reactor_end, state_of}
-use Rattle.lw_base.proofs.Sums.{same_or_not, at-zeros}
+use Rattle.lw_base.specs.World.{IsKept, first_state}
+use Rattle.lw_base.specs.WorldParts.{IsSound, reactor_end}
+use Rattle.lw_base.proofs.Sums.{at-zeros}
 use Rattle.lw_base.proofs.Registers.{length-tabulate}
 
 each_of_one : {S : Type 0} (size : S → ℕ) (most : ℕ) (s : S) (k : ℕ) (d : S) → size s ≤ most → size d ≤ most → size (slice_index_or (s ∷ []) k d) ≤ most

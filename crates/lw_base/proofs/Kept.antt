@@ -1,16 +1,15 @@
 -- What accepted events keep.
-use Rattle.std.proofs.Common.{◌≡◌, ◌≢◌, ◌≤◌, ◌<◌, ◌⊎◌, inl, inr, ℕ, zero, suc, ◌+◌, Bool, true, false, not, ◌&&◌, ◌||◌, nat_lt, nat_le, List, [], ◌∷◌, refl, sym, ap, ◌∙◌, arith, slice_set, slice_index_or, Option, Some, None}
+use Rattle.std.proofs.Common.{◌≡◌, ◌≤◌, ◌<◌, inl, inr, ℕ, zero, suc, ◌+◌, Bool, true, false, not, ◌&&◌, ◌||◌, nat_lt, List, [], ◌∷◌, refl, sym, ap, ◌∙◌, arith, slice_set, None}
 use Rattle.std.proofs.lemmas.List.{length-set}
 use Rattle.std.proofs.lemmas.Bool.{leb-false, true≢false, ltb-true, ltb-false}
 use Rattle.lw_base.specs.declared.world_state.Standing.{Standing}
 use Rattle.lw_base.specs.declared.world_state.Standing.TheVariants as standing
 use Rattle.lw_base.specs.declared.world_state.Stage.{Stage}
 use Rattle.lw_base.specs.declared.world_state.Stage.TheVariants as stage
-use Rattle.lw_base.specs.declared.world_event.WorldEvent.{WorldEvent}
 use Rattle.lw_base.specs.declared.world_event.WorldEvent.TheVariants.{Run, End, Fire}
 use Rattle.lw_base.specs.declared.world_event.WorldRefusal.{WorldRefusal}
 use Rattle.lw_base.specs.Sums.{at, put}
-use Rattle.lw_base.specs.World.{State, IsKept, Test, first_of, acting, is_end, is_ended, is_fired, stage_of, standing_of, any_below, tests_of, refusal_of, acts, is_list, has_unrun, owns_some, visits_some, owes_callback, has_owner, has_visit, is_shut_by}
+use Rattle.lw_base.specs.World.{State, IsKept, Test, first_of, is_end, is_ended, is_fired, standing_of, any_below, tests_of, refusal_of, acts, is_list, visits_some, owes_callback, has_owner, has_visit}
 use Rattle.lw_base.specs.WorldParts.{Parts, IsSound, state_of}
 use Rattle.lw_base.proofs.Sums.{same_or_not, set_cases, put_cases}
 

@@ -1,5 +1,5 @@
 -- The definition of a walk at a worked text, by computation.
-use Rattle.std.specs.Prelude.{◌≡◌, ℕ, List, [], ◌∷◌, ◌++◌, codes, length, nat_lt, if◌then◌else◌, Option, Some, None, refl}
+use Rattle.std.specs.Prelude.{◌≡◌, ℕ, List, [], codes, length, nat_lt, if◌then◌else◌, Some, None, refl}
 use Rattle.std.proofs.Common.{ap}
 use Rattle.std.specs.Fmt.{digits}
 use Rattle.lw_base.specs.WalkLines.{pieces}

@@ -1,5 +1,5 @@
 -- The loop over the events of a walk, and its first line.
-use Rattle.std.proofs.Common.{◌≡◌, ◌≤◌, ◌<◌, ℕ, suc, ◌+◌, Bool, true, false, List, [], ◌∷◌, ◌++◌, append_assoc, length, Option, Some, None, unwrap_or, refl, sym, ap, ◌∙◌, arith, nat_lt, if◌then◌else◌, Result}
+use Rattle.std.proofs.Common.{◌≡◌, ◌≤◌, ◌<◌, ℕ, suc, ◌+◌, Bool, true, false, List, [], ◌∷◌, ◌++◌, append_assoc, length, Option, Some, None, unwrap_or, refl, sym, ap, ◌∙◌, arith, if◌then◌else◌}
 use Rattle.std.specs.List.{filter_map, cons_option}
 use Rattle.std.proofs.lemmas.Bool.{le-ltb, true≢false}
 use Rattle.lw_base.specs.declared.world_event.WorldEvent.{WorldEvent}
@@ -10,7 +10,7 @@ use Rattle.lw_base.specs.Sums.{at}
 use Rattle.lw_base.specs.World.{State, HasRoom, after, stepped, refusal_of, answer_of, first_state}
 use Rattle.lw_base.specs.WalkLines.{Left, taken, is_nil, is_feed, put_on, pieces}
 use Rattle.lw_base.specs.WalkForm.{event_in, sizes_in, bad_event, bad_line, stopped_at}
-use Rattle.lw_base.specs.Walk.{answers, event_line, refused, state_text, walk_bad_line, walk_answer, walk_of}
+use Rattle.lw_base.specs.Walk.{answers, event_line, refused, walk_bad_line, walk_answer, walk_of}
 use Rattle.lw_base.proofs.Sums.{at-put_small}
 
 -- ---- messages stay few

@@ -1,5 +1,5 @@
 -- A walk and its answer.
-use Rattle.std.specs.Prelude.{◌≡◌, ℕ, zero, suc, ◌+◌, ◌==◌, Bool, ◌&&◌, nat_lt, List, [], ◌∷◌, ◌++◌, length, codes, decimal, if◌then◌else◌, Option, Some, None, Result, Ok, Err}
+use Rattle.std.specs.Prelude.{◌≡◌, ℕ, ◌+◌, Bool, nat_lt, List, [], ◌∷◌, ◌++◌, length, codes, decimal, if◌then◌else◌, Option, Some, None, Result, Ok, Err}
 use Rattle.std.specs.List.{filter_map, join_with_byte}
 use Rattle.lw_base.specs.declared.world_event.WorldEvent.{WorldEvent}
 use Rattle.lw_base.specs.declared.world_event.WorldRefusal.{WorldRefusal}
@@ -7,7 +7,6 @@ use Rattle.lw_base.specs.declared.world_state.Standing.{Standing}
 use Rattle.lw_base.specs.declared.world_state.Standing.TheVariants as standing
 use Rattle.lw_base.specs.declared.world_state.Stage.{Stage}
 use Rattle.lw_base.specs.declared.world_state.Stage.TheVariants as stage
-use Rattle.lw_base.specs.declared.walk.Sizes.{Sizes}
 use Rattle.lw_base.specs.declared.walk.Walked.{Walked}
 use Rattle.lw_base.specs.declared.walk.Walked.TheVariants.{BadLine, Text}
 use Rattle.lw_base.specs.Sums.{at, sum_below, texts_below}

@@ -1,6 +1,5 @@
 -- The form of a walk: its first line, and the lines of events.
-use Rattle.std.specs.Prelude.{ℕ, ◌+◌, Bool, ◌&&◌, nat_le, nat_lt, List, [], ◌∷◌, length, codes, if◌then◌else◌, Option, Some, None, option_map}
-use Rattle.std.specs.List.{filter_map}
+use Rattle.std.specs.Prelude.{ℕ, ◌+◌, Bool, ◌&&◌, nat_le, List, [], ◌∷◌, codes, if◌then◌else◌, Option, Some, None, option_map}
 use Rattle.lw_base.specs.declared.world_event.WorldEvent.{WorldEvent}
 use Rattle.lw_base.specs.declared.world_event.WorldEvent.TheVariants.{Send, Run, LeaveFor, Arrive, End, Give, Destroy, Shut, Fire, BeginVisit, EndVisit, Sleep, Wake}
 use Rattle.lw_base.specs.declared.walk.Sizes.{Sizes}
@@ -38,6 +37,22 @@ of_pair make l = option_map (λ p. make p.0 p.1) (pair_in l)
 abbrev pub of_single : (ℕ → WorldEvent) → List ℕ → Option WorldEvent
 of_single make l = option_map make (single_in l)
 
+-- an event of a reactor
+abbrev pub reactor_event_in : List ℕ → Option WorldEvent
+reactor_event_in l =
+    choose (codes "sleep") l (of_single Sleep)
+    (choose (codes "wake") l (of_single Wake) None)
+
+-- an event of a device, or of a reactor
+abbrev pub device_event_in : List ℕ → Option WorldEvent
+device_event_in l =
+    choose (codes "give") l (of_pair Give)
+    (choose (codes "destroy") l (of_pair Destroy)
+    (choose (codes "shut") l (of_pair Shut)
+    (choose (codes "fire") l (of_pair Fire)
+    (choose (codes "visit") l (of_pair BeginVisit)
+    (choose (codes "unvisit") l (of_pair EndVisit) (reactor_event_in l))))))
+
 -- the event that a line is
 abbrev pub event_in : List ℕ → Option WorldEvent
 event_in l =
@@ -45,15 +60,7 @@ event_in l =
     (choose (codes "run") l (of_pair Run)
     (choose (codes "leave") l (of_pair LeaveFor)
     (choose (codes "arrive") l (of_single Arrive)
-    (choose (codes "end") l (of_single End)
-    (choose (codes "give") l (of_pair Give)
-    (choose (codes "destroy") l (of_pair Destroy)
-    (choose (codes "shut") l (of_pair Shut)
-    (choose (codes "fire") l (of_pair Fire)
-    (choose (codes "visit") l (of_pair BeginVisit)
-    (choose (codes "unvisit") l (of_pair EndVisit)
-    (choose (codes "sleep") l (of_single Sleep)
-    (choose (codes "wake") l (of_single Wake) None))))))))))))
+    (choose (codes "end") l (of_single End) (device_event_in l)))))
 
 abbrev pub are_sizes : Sizes → Bool
 are_sizes s = nat_le 1 s.threads && nat_le s.threads 81 && nat_le 1 s.reactors && nat_le s.reactors 16 && nat_le s.devices 16

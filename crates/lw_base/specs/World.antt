@@ -1,5 +1,5 @@
 -- The world of events: its state, which events it refuses, and what the others do.
-use Rattle.std.specs.Prelude.{◌≡◌, ℕ, zero, suc, ◌+◌, ◌*◌, ◌%◌, ◌==◌, ◌<◌, ◌≤◌, Bool, true, false, ◌&&◌, ◌||◌, not, nat_lt, nat_le, List, [], ◌∷◌, slice_index, slice_index_or, slice_set, replicate, if◌then◌else◌, Option, Some, None, Result, Ok, Err}
+use Rattle.std.specs.Prelude.{◌≡◌, ℕ, zero, suc, ◌+◌, ◌*◌, ◌%◌, ◌==◌, ◌<◌, ◌≤◌, Bool, true, false, ◌&&◌, ◌||◌, not, nat_lt, nat_le, List, [], ◌∷◌, slice_index_or, slice_set, replicate, if◌then◌else◌, Option, Some, None, Result, Ok, Err}
 use Rattle.std.specs.List.{list_any}
 use Rattle.lw_base.specs.declared.world_state.Standing.{Standing}
 use Rattle.lw_base.specs.declared.world_state.Standing.TheVariants as standing
@@ -9,7 +9,7 @@ use Rattle.lw_base.specs.declared.world_event.WorldEvent.{WorldEvent}
 use Rattle.lw_base.specs.declared.world_event.WorldEvent.TheVariants.{Send, Run, LeaveFor, Arrive, End, Give, Destroy, Shut, Fire, BeginVisit, EndVisit, Sleep, Wake}
 use Rattle.lw_base.specs.declared.world_event.WorldRefusal.{WorldRefusal}
 use Rattle.lw_base.specs.declared.world_event.WorldRefusal.TheVariants as refusal
-use Rattle.lw_base.specs.Sums.{at, put, sum_below}
+use Rattle.lw_base.specs.Sums.{at, put}
 use Rattle.lw_base.specs.Register.{tabulate}
 
 -- ---- the state

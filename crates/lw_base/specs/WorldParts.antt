@@ -1,5 +1,5 @@
 -- A world as the parts that keep it.
-use Rattle.std.specs.Prelude.{◌≡◌, ℕ, ◌+◌, ◌<◌, ◌≤◌, Bool, List, length}
+use Rattle.std.specs.Prelude.{◌≡◌, ℕ, ◌+◌, ◌≤◌, Bool, List, length}
 use Rattle.lw_base.specs.declared.world_state.Standing.{Standing}
 use Rattle.lw_base.specs.declared.world_state.Standing.TheVariants as standing
 use Rattle.lw_base.specs.declared.world_state.Stage.{Stage}

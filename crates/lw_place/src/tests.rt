@@ -1,10 +1,11 @@
-ghost use Rattle.std.specs.Prelude.{◌≡◌, ◌<◌, ◌∷◌, [], IfOk};
+ghost use Rattle.std.specs.Prelude.{◌≡◌, ◌≢◌, ◌<◌, ◌∷◌, [], IfOk};
 ghost use Rattle.lw_place.specs.PlaceSeats.{new_desk};
 
 use crate::{DeskSeat, Place, ThreadSeat, Whole, gather, places};
 use lw_base::NoMemory;
 use std::alloc::Global;
 use std::test::Fail;
+use std::thread;
 
 // The places of three threads over two reactors, gathered at once.
 fn at_home(alloc: Global) -> Result<Whole, NoMemory> {
@@ -71,5 +72,85 @@ fn a_thread_goes_its_way_and_the_desk_sees_it(rt: HostRuntime) -> Result<(), Fai
     };
     assert!(rt; whole.places.as_slice() == [Place::Ended].as_slice());
     assert!(rt; whole.done == 1 && whole.halted);
+    Ok(())
+}
+
+// The seats and desks of two threads over two reactors.
+fn two_of_each(alloc: Global) -> Result<(ThreadSeat, ThreadSeat, DeskSeat, DeskSeat), NoMemory>
+    ensures first { IfOk result (λ r. r.0 ≡ record { places = r.2.places; thread = 0; place = Place.List 0 }) }
+    ensures second { IfOk result (λ r. r.1 ≡ record { places = r.2.places; thread = 1; place = Place.List 1 }) }
+    ensures desks { IfOk result (λ r. (r.2 ≡ new_desk r.2.places) × (r.3 ≡ new_desk r.2.places)) }
+    ensures counts { IfOk result (λ r. (r.2.places.threads ≡ 2) × (r.2.places.reactors ≡ 2)) }
+{
+    let (mut threads, mut desks) = places(alloc, 2, 2)?;
+    let other_desk = desks.pop().unwrap();
+    let desk = desks.pop().unwrap();
+    let other = threads.pop().unwrap();
+    let thread = threads.pop().unwrap();
+    Ok((thread, other, desk, other_desk))
+}
+
+// Looks at a thread and at the count, many times.
+fn look_often(desk: &mut DeskSeat, thread: u32)
+    requires { thread < desk.old.places.threads }
+    ensures { (desk.new.places ≡ desk.old.places) × (desk.new.retired ≡ desk.old.retired)
+        × (desk.new.halted ≡ desk.old.halted) }
+{
+    for _ in 0..1000 {
+        let _place = desk.look(thread);
+        let _done = desk.look_done();
+    }
+}
+
+// A thread goes to reactor 1 and to reactor 0, and ends, while its desk looks at another thread.
+fn goes_and_looks(mut thread: ThreadSeat, mut desk: DeskSeat, other: u32) -> (ThreadSeat, DeskSeat)
+    requires thread { (thread.place ≢ Place.Ended) × (thread.places.reactors ≡ 2) }
+    requires desk { (desk.retired ≡ 0) × (desk.halted ≡ 0) × (other < desk.places.threads) }
+    ensures thread { result.0 ≡ record thread { place = Place.Ended } }
+    ensures desk { (result.1.places ≡ desk.places) × (result.1.retired ≡ 1) × (result.1.halted ≡ 0) }
+{
+    thread.leave_for(1);
+    look_often(&mut desk, other);
+    thread.arrive();
+    thread.leave_for(0);
+    look_often(&mut desk, other);
+    thread.arrive();
+    thread.end();
+    desk.retire();
+    look_often(&mut desk, other);
+    (thread, desk)
+}
+
+// Gathers both threads and both desks.
+fn gather_two(
+    alloc: Global,
+    thread: ThreadSeat,
+    other: ThreadSeat,
+    desk: DeskSeat,
+    other_desk: DeskSeat,
+) -> Result<Whole, NoMemory>
+    requires one_table { (thread.places ≡ desk.places) × (other.places ≡ desk.places) × (other_desk.places ≡ desk.places) }
+    requires counts { (desk.places.threads ≡ 2) × (desk.places.reactors ≡ 2) }
+{
+    let mut threads = Vec::new(alloc);
+    threads.push(thread)?;
+    threads.push(other)?;
+    let mut desks = Vec::new(alloc);
+    desks.push(desk)?;
+    desks.push(other_desk)?;
+    gather(alloc, threads, desks)
+}
+
+#[test]
+fn two_machine_threads_move_end_and_look_at_each_other(rt: HostRuntime) -> Result<(), Fail> {
+    let (a, b, desk_a, desk_b) = two_of_each(rt.alloc())?;
+    let ((a, desk_a), (b, desk_b)) = thread::join(
+        &rt,
+        move || goes_and_looks(a, desk_a, 1),
+        move || goes_and_looks(b, desk_b, 0),
+    );
+    let whole = gather_two(rt.alloc(), a, b, desk_a, desk_b)?;
+    assert!(rt; whole.places.as_slice() == [Place::Ended, Place::Ended].as_slice());
+    assert!(rt; whole.done == 2 && !whole.halted);
     Ok(())
 }

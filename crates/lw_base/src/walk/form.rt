@@ -1,6 +1,6 @@
 //! The lines of a walk: the sizes of its world, and its events.
 ghost use Rattle.std.specs.Prelude.{◌≡◌, ◌≤◌, IfSome};
-ghost use Rattle.lw_base.specs.WalkForm.{are_sizes, event_in, pair_in, single_in, sizes_in};
+ghost use Rattle.lw_base.specs.WalkForm.{are_sizes, device_event_in, event_in, reactor_event_in, pair_in, single_in, sizes_in};
 
 use crate::walk::Sizes;
 use crate::walk::parts::{after, is_end, spaced};
@@ -25,6 +25,48 @@ fn pair(line: &[u8]) -> Option<(u32, u32)>
     }
 }
 
+// An event of a reactor.
+fn reactor_event(line: &[u8]) -> Option<WorldEvent>
+    ensures { result ≡ reactor_event_in line.now }
+{
+    if let Some(rest) = after(line, "sleep") {
+        let reactor = single(rest)?;
+        Some(WorldEvent::Sleep { reactor })
+    } else if let Some(rest) = after(line, "wake") {
+        let reactor = single(rest)?;
+        Some(WorldEvent::Wake { reactor })
+    } else {
+        None
+    }
+}
+
+// An event of a device, or of a reactor.
+fn device_event(line: &[u8]) -> Option<WorldEvent>
+    ensures { result ≡ device_event_in line.now }
+{
+    if let Some(rest) = after(line, "give") {
+        let (thread, device) = pair(rest)?;
+        Some(WorldEvent::Give { thread, device })
+    } else if let Some(rest) = after(line, "destroy") {
+        let (thread, device) = pair(rest)?;
+        Some(WorldEvent::Destroy { thread, device })
+    } else if let Some(rest) = after(line, "shut") {
+        let (thread, device) = pair(rest)?;
+        Some(WorldEvent::Shut { thread, device })
+    } else if let Some(rest) = after(line, "fire") {
+        let (thread, device) = pair(rest)?;
+        Some(WorldEvent::Fire { thread, device })
+    } else if let Some(rest) = after(line, "visit") {
+        let (thread, device) = pair(rest)?;
+        Some(WorldEvent::BeginVisit { thread, device })
+    } else if let Some(rest) = after(line, "unvisit") {
+        let (thread, device) = pair(rest)?;
+        Some(WorldEvent::EndVisit { thread, device })
+    } else {
+        reactor_event(line)
+    }
+}
+
 /// The event that a line is.
 pub fn event(line: &[u8]) -> Option<WorldEvent>
     ensures { result ≡ event_in line.now }
@@ -44,32 +86,8 @@ pub fn event(line: &[u8]) -> Option<WorldEvent>
     } else if let Some(rest) = after(line, "end") {
         let thread = single(rest)?;
         Some(WorldEvent::End { thread })
-    } else if let Some(rest) = after(line, "give") {
-        let (thread, device) = pair(rest)?;
-        Some(WorldEvent::Give { thread, device })
-    } else if let Some(rest) = after(line, "destroy") {
-        let (thread, device) = pair(rest)?;
-        Some(WorldEvent::Destroy { thread, device })
-    } else if let Some(rest) = after(line, "shut") {
-        let (thread, device) = pair(rest)?;
-        Some(WorldEvent::Shut { thread, device })
-    } else if let Some(rest) = after(line, "fire") {
-        let (thread, device) = pair(rest)?;
-        Some(WorldEvent::Fire { thread, device })
-    } else if let Some(rest) = after(line, "visit") {
-        let (thread, device) = pair(rest)?;
-        Some(WorldEvent::BeginVisit { thread, device })
-    } else if let Some(rest) = after(line, "unvisit") {
-        let (thread, device) = pair(rest)?;
-        Some(WorldEvent::EndVisit { thread, device })
-    } else if let Some(rest) = after(line, "sleep") {
-        let reactor = single(rest)?;
-        Some(WorldEvent::Sleep { reactor })
-    } else if let Some(rest) = after(line, "wake") {
-        let reactor = single(rest)?;
-        Some(WorldEvent::Wake { reactor })
     } else {
-        None
+        device_event(line)
     }
 }
 

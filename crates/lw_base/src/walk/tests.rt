@@ -1,4 +1,4 @@
-use crate::{Walked, World, WorldEvent, WorldRefusal, walk_text};
+use crate::{Stage, Standing, Walked, World, WorldEvent, WorldRefusal, walk_text};
 use std::alloc::Global;
 use std::test::Fail;
 
@@ -125,6 +125,7 @@ fn a_world_is_stepped_and_asked(rt: HostRuntime) -> Result<(), Fail> {
     assert!(rt; WorldRefusal::Unrun.number() == 5);
     assert!(rt; world.threads() == 2 && world.reactors() == 1 && world.devices() == 1);
     assert!(rt; world.sent(0, 1) == 1 && world.run(0, 1) == 0);
-    assert!(rt; world.owners(0) == 0 && !world.sleeps(0));
+    assert!(rt; world.standing(1) == Standing::List { reactor: 0 });
+    assert!(rt; world.stage(0) == Stage::Open && world.owners(0) == 0 && !world.sleeps(0));
     Ok(())
 }

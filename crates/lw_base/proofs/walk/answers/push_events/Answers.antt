@@ -1,7 +1,6 @@
-use Rattle.std.proofs.Common.{◌≡◌, ◌∙◌, ◌+◌, ◌++◌, ℕ, string_bytes, ap, sym, arith}
+use Rattle.std.proofs.Common.{◌≡◌, ◌∙◌, ◌+◌, ◌++◌, string_bytes, ap, sym, arith}
 use Rattle.std.specs.List.{filter_map}
-use Rattle.lw_base.specs.Sums.{at}
-use Rattle.lw_base.specs.World.{State, stepped, refusal_of}
+use Rattle.lw_base.specs.World.{State, refusal_of}
 use Rattle.lw_base.specs.WalkForm.{event_in}
 use Rattle.lw_base.specs.Walk.{answers, event_line, refused}
 use Rattle.lw_base.proofs.Walks.{took, stopped, bad_same, lines_less, answers_same, sent_more, refused-answer}

@@ -1,7 +1,7 @@
 use Rattle.std.proofs.Common.{◌≡◌, ◌++◌, string_bytes}
-use Rattle.lw_base.specs.Sums.{at, texts_below}
-use Rattle.lw_base.specs.World.{standing_of, stage_of, sleeps}
-use Rattle.lw_base.specs.Walk.{thread_line, pair_line, pairs_of, device_line, reactor_line, owners}
+use Rattle.lw_base.specs.Sums.{texts_below}
+use Rattle.lw_base.specs.World.{sleeps}
+use Rattle.lw_base.specs.Walk.{reactor_line}
 use Rattle.lw_base.proofs.walk.state_text.push_reactors.Given as goal
 
 -- the lines so far stand behind what there was
