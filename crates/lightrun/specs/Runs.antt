@@ -3,6 +3,7 @@ use Rattle.std.specs.Prelude.{◌≡◌, ◌≢◌, ℕ, List, Some, None}
 use Rattle.lw_model.specs.declared.record.Record.{Record}
 use Rattle.lw_model.specs.declared.refusal.ScriptRefusal.{ScriptRefusal}
 use Rattle.lw_model.specs.declared.refusal.ScriptRefusal.TheVariants as refusal
+use Rattle.lw_model.specs.Lawful.{Lawful}
 use Rattle.lw_model.specs.ReportText.{text_of}
 use Rattle.lw_model.specs.ScriptText.{script_of}
 use Rattle.lw_model.specs.Served.{run_refusal}
@@ -11,10 +12,11 @@ use Rattle.lightrun.specs.declared.fault.Fault.{Fault}
 use Rattle.lightrun.specs.declared.fault.Fault.TheVariants.{Script}
 use Rattle.lightrun.specs.Works.{WorkOf}
 
--- the record is of the script that the bytes are, and the run serves it
+-- the record is of the script that the bytes are, which the run serves, and it is lawful
 pub record IsRunOf (bytes : List ℕ) (r : Record) : Type 0 where
   pub accepted : run_refusal bytes ≡ None
   pub script : script_of bytes ≡ Some r.script
+  pub lawful : Lawful r
 
 -- it is of a run under these options
 pub record IsRunUnder (o : Options) (r : Record) : Type 0 where

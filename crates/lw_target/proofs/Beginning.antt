@@ -33,7 +33,7 @@ none_stands (k ∷ ks) all =
 no_steps : (c : Client) → IsFresh c → steps_so_far c [] ≡ []
 no_steps c f = ap (λ (did : List Did). own_order (log_of [] did c.replies)) f.did
 
-kept_nothing : (c : Client) (d : ℕ) (k : Channel) → IsFresh c → slice_get c.channels.items d ≡ Some k → IsNothing k
+pub kept_nothing : (c : Client) (d : ℕ) (k : Channel) → IsFresh c → slice_get c.channels.items d ≡ Some k → IsNothing k
 kept_nothing c d k f e =
     subst IsNothing (get_or_from_slice_get c.channels.items d k k e) (All-get_or IsNothing c.channels.items d k (slice_get_within c.channels.items d k e) f.channels)
 

@@ -35,3 +35,4 @@ mod WholeRan
 mod WholeDevices
 mod WholeReplies
 mod WholeLawful
+mod RunLawful

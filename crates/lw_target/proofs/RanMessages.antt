@@ -321,6 +321,13 @@ ends_put devices devices' d k v seen changed = ap ends_of changed ∙ at (is_des
     at true = map_kept (λ (v : Device). (v.shut_by, v.callbacks)) devices d v (record v { standing = v.standing - 1 }) seen refl
     at false = refl
 
+pub given_put : (devices devices' : List Device) (d : ℕ) (k : Channel) (v : Device) → slice_get devices d ≡ Some v → devices' ≡ devices_after devices d k v → map (λ (x : Device). x.given) devices' ≡ map (λ (x : Device). x.given) devices
+given_put devices devices' d k v seen changed = ap (map (λ (x : Device). x.given)) changed ∙ at (is_destroyed k)
+  where
+    at : (b : Bool) → map (λ (x : Device). x.given) (cond b (slice_set devices d (record v { standing = v.standing - 1 })) devices) ≡ map (λ (x : Device). x.given) devices
+    at true = map_kept (λ (x : Device). x.given) devices d v (record v { standing = v.standing - 1 }) seen refl
+    at false = refl
+
 -- a message behind a put of a device that is not there
 pub put_past : (m : Tag) (d n : ℕ) → m.what ≡ what.PutSelf d → n ≤ d → (e : ℕ) → e < n → is_putself e m.what ≡ false
 put_past m d n is past e within = ap (is_putself e) is ∙ ne_eqb d e (λ same. absurd (omega (arith, same)))

@@ -98,9 +98,10 @@ pub steps_plain : (s : Script) → list_all (is_servable 1) (ops_of s 1) ≡ tru
 steps_plain s ops past [] e = tt
 steps_plain s ops past (step.Did i x ∷ steps) e =
     let both = and_parts (line_fits s 1 past (step.Did i x)) _ e in
-    let fits = (and_parts _ _ (and_parts _ _ both.0).0).0 in
-    (fit_plain s past (op_at s 1 i) x.answer (may_serve (ops_of s 1) i ops) (and_parts _ _ fits).1,
-    steps_plain s ops (step.Did i x ∷ past) steps both.1)
+    let fits = (and_parts _ _ (and_parts _ _ both.0).0).0 in (
+      fit_plain s past (op_at s 1 i) x.answer (may_serve (ops_of s 1) i ops) (and_parts _ _ fits).1,
+      steps_plain s ops (step.Did i x ∷ past) steps both.1,
+    )
 steps_plain s ops past (step.Called i x ∷ steps) e = (tt, steps_plain s ops (step.Called i x ∷ past) steps (and_parts true _ e).1)
 steps_plain s ops past (step.Ran i m ∷ steps) e = (tt, steps_plain s ops (step.Ran i m ∷ past) steps (and_parts true _ e).1)
 

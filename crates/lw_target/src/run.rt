@@ -3,6 +3,7 @@ ghost use Rattle.std.specs.Prelude.{◌≡◌, ◌<◌, ◌≤◌, ◌*◌, ◌+
 ghost use Rattle.std.specs.List.{list_all};
 ghost use Rattle.lw_model.specs.Printable.{has_a_line, has_bytes};
 ghost use Rattle.lw_model.specs.ScriptRules.{rule_broken};
+ghost use Rattle.lw_model.specs.Lawful.{Lawful};
 ghost use Rattle.lw_model.specs.Served.{is_served};
 ghost use Rattle.lw_target.specs.Options.{AreServed};
 ghost use Rattle.lw_target.specs.Ops.{is_servable};
@@ -30,8 +31,22 @@ use std::alloc::Global;
 /// Runs a script of one client on one image, whose ops are gets, puts, writes and reads, and answers the record of its
 /// run. One reactor runs it, under the static scheduler; the period is listed, and no round is made.
 ///
-/// The call ends: each turn of the threads leaves less to be done.
+/// The record is lawful (docs/lawful.md). The call ends: each turn of the threads leaves less to be done.
 pub fn run_script(alloc: Global, script: Script, options: Options) -> Result<Record, NoMemory>
+    requires accepted { rule_broken script ≡ None }
+    requires served { is_served script ≡ true }
+    requires options { AreServed options }
+    ensures lawful { IfOk result Lawful }
+    ensures script { IfOk result (λ r. r.script ≡ script) }
+    ensures scheduler { IfOk result (λ r. r.scheduler ≡ options.scheduler) }
+    ensures reactors { IfOk result (λ r. r.reactors ≡ options.reactors) }
+    ensures period { IfOk result (λ r. r.period ≡ options.period) }
+{
+    run_whole(alloc, script, options)
+}
+
+// The record of a run in which all threads ended.
+fn run_whole(alloc: Global, script: Script, options: Options) -> Result<Record, NoMemory>
     requires accepted { rule_broken script ≡ None }
     requires served { is_served script ≡ true }
     requires options { AreServed options }

@@ -1,5 +1,5 @@
 //! What a client does with a message that it runs.
-ghost use Rattle.std.specs.Prelude.{List, [], ◌∷◌, ◌++◌, ◌≡◌, ◌<◌, ◌==◌, filter, not, length, vec_len, true, OnOk, IfSome, slice_get};
+ghost use Rattle.std.specs.Prelude.{List, [], ◌∷◌, ◌++◌, ◌≡◌, ◌<◌, ◌==◌, filter, map, not, length, vec_len, true, OnOk, IfSome, slice_get};
 ghost use Rattle.lw_base.specs.declared.message.What.TheVariants as what;
 ghost use Rattle.lw_base.specs.declared.message.Tag.{Tag};
 ghost use Rattle.lw_model.specs.declared.script.Script.{Script};
@@ -30,6 +30,7 @@ impl Client {
         ensures agree { OnOk result ((s : Script) (ran : List Tag) → Follows s self.old ran → AllAgree s self.old ran devices.old
             → AllAgree s self.new (ran ++ mail.tag ∷ []) devices.new) }
         ensures ends { OnOk result (ends_of devices.new ≡ ends_of devices.old) }
+        ensures given { OnOk result (map (λ v. v.given) devices.new ≡ map (λ v. v.given) devices.old) }
     {
         match mail.tag.what {
             What::Reply { op } => {

@@ -2,7 +2,7 @@ use Rattle.std.proofs.Common.{ℕ, ◌≡◌, ◌<◌, false, length, refl, ap, 
 use Rattle.std.specs.Prelude.{slice_get}
 use Rattle.std.proofs.lemmas.Option.{IfSome_then}
 use Rattle.lw_model.specs.Holding.{is_putself}
-use Rattle.lw_target.proofs.RanMessages.{RanStep, ran_message, ran_agree, devices_stay, devices_put, ends_put, step_reply, replies_reply, replies_stay, step_none, step_put, put_past, no_reply_put, not_putself, PutTaken, put_taken, same_work}
+use Rattle.lw_target.proofs.RanMessages.{RanStep, ran_message, ran_agree, devices_stay, devices_put, ends_put, given_put, step_reply, replies_reply, replies_stay, step_none, step_put, put_past, no_reply_put, not_putself, PutTaken, put_taken, same_work}
 use Rattle.lw_target.proofs.client.Client.run.Goals as goal
 
 -- ---- a put of a device that is not there
@@ -85,6 +85,9 @@ returns-else-image-len-clause-agree c =
 pub returns-else-image-len-clause-ends : goal.returns-else-image-len-clause-ends
 returns-else-image-len-clause-ends c = let t = taken c in ends_put c.args.devices.now c.take_put.new.devices c.in-PutSelf.device t.k t.v t.seen t.changed
 
+pub returns-else-image-len-clause-given : goal.returns-else-image-len-clause-given
+returns-else-image-len-clause-given c = let t = taken c in given_put c.args.devices.now c.take_put.new.devices c.in-PutSelf.device t.k t.v t.seen t.changed
+
 -- ---- another message
 
 step_other : (c : goal.Joined-mail-4) → RanStep c.args.self.now c.args.self.now c.args.mail.tag
@@ -99,4 +102,5 @@ returns-in_default c = record {
   agree = λ s ran h all. ran_agree s c.args.self.now c.args.self.now ran c.args.mail.tag c.args.devices.now c.args.devices.now (step_other c)
       (devices_stay c.args.self.now c.args.devices.now c.args.mail.tag (λ d within. not_putself c.args.mail.tag.what c.in_default.not-PutSelf d)) h all;
   ends = refl;
+  given = refl;
 }
