@@ -1,5 +1,5 @@
 //! The lines of a walk: the sizes of its world, and its events.
-ghost use Rattle.std.specs.Prelude.{◌≡◌, ◌≤◌, IfSome};
+ghost use Rattle.std.specs.Prelude.{◌≡◌};
 ghost use Rattle.lw_base.specs.WalkForm.{are_sizes, device_event_in, event_in, reactor_event_in, pair_in, single_in, sizes_in};
 
 use crate::walk::Sizes;

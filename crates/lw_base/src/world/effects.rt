@@ -1,6 +1,5 @@
 //! What an event does that isn't refused.
-ghost use Rattle.std.specs.Prelude.{◌≡◌, ◌<◌, None};
-ghost use Rattle.lw_base.specs.Sums.{at};
+ghost use Rattle.std.specs.Prelude.{◌≡◌, None};
 ghost use Rattle.lw_base.specs.World.{HasRoom, after, arrived, refusal_of};
 
 use crate::world::World;

@@ -1,10 +1,9 @@
 //! Which events a world refuses, and why.
-ghost use Rattle.std.specs.Prelude.{◌≡◌, Some, None};
+ghost use Rattle.std.specs.Prelude.{◌≡◌};
 ghost use Rattle.lw_base.specs.World.{refusal_of};
 
 use crate::world::World;
 use crate::world_event::{WorldEvent, WorldRefusal};
-use crate::world_state::Stage;
 
 impl World {
     fn send_refusal(&self, sender: u32, receiver: u32) -> Option<WorldRefusal>
