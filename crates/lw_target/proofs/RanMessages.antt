@@ -1,6 +1,6 @@
 -- A client's log and state agree behind a message that it ran.
 use Rattle.std.proofs.Common.{ℕ, ◌≡◌, ◌+◌, ◌-◌, ◌≤◌, ◌<◌, Bool, true, false, ◌&&◌, List, [], ◌∷◌, ◌++◌, reverse, length, arith, refl, sym, ap, ap₂, ◌∙◌, subst, cond, get_or}
-use Rattle.std.specs.Prelude.{IfSome, not, ◌||◌, ◌==◌, filter, filter_map, count_by, Option, Some, None, option_map, option_to_list, is_some, is_none, slice_get, slice_set, vec_len}
+use Rattle.std.specs.Prelude.{IfSome, map, not, ◌||◌, ◌==◌, filter, filter_map, count_by, Option, Some, None, option_map, option_to_list, is_some, is_none, slice_get, slice_set, vec_len}
 use Rattle.std.specs.List.{list_any, range_with_len}
 use Rattle.std.proofs.lemmas.Option.{slice_get-get_or, same_Some, none-some, slice_get_within}
 use Rattle.std.proofs.lemmas.Bool.{eqb-true, ne_eqb}
