@@ -30,7 +30,8 @@ use Rattle.lw_target.proofs.LogGrowth.{steps_did, sends_push, any_push}
 use Rattle.lw_target.proofs.Places.{got, map_kept}
 use Rattle.lw_target.proofs.RanMessages.{came_from}
 use Rattle.lw_target.proofs.Handling.{OpDone}
-use Rattle.lw_target.proofs.Listing.{known, line_of, list_all_found, on_op, op_follows, requested_by, putselfs_by, sends_by, pending_after, none_usable, ends_after, stands_after, given_after}
+use Rattle.lw_target.proofs.Replying.{list_all_found}
+use Rattle.lw_target.proofs.Listing.{known, line_of, on_op, op_follows, requested_by, putselfs_by, sends_by, pending_after, none_usable, ends_after, stands_after, given_after}
 
 -- what the op sent
 abbrev outs_of : (old new : Client) (before after : Asked) (devices devices' : List Device) → OpDone old new before after devices devices' → List Outgoing

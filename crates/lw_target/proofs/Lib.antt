@@ -19,6 +19,7 @@ mod LogGrowth
 mod Kept
 mod Places
 mod RanMessages
+mod Replying
 mod Listing
 mod Doing
 mod Ending
