@@ -34,7 +34,7 @@ use Rattle.lw_target.proofs.Mails.{list_all_push}
 use Rattle.lw_target.proofs.Numbers.{count_cons, count_append}
 use Rattle.lw_target.proofs.Letters.{letter_of}
 use Rattle.lw_target.proofs.Told.{true_false, first_letter, told_got}
-use Rattle.lw_target.proofs.Ending.{unregistered_is}
+use Rattle.lw_target.proofs.AppEnding.{unregistered_is}
 use Rattle.lw_target.proofs.OwnerRuns.{AreInOrder}
 
 -- ---- the app runs a message

@@ -6,7 +6,7 @@ pub mod ClientRuns
 pub mod OwnerRuns
 pub mod Sends
 pub mod ClientTicks
-pub mod Ending
+pub mod AppEnding
 pub mod AppTurns
 pub mod Resting
 pub mod Whole

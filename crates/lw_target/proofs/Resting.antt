@@ -8,7 +8,7 @@ use Rattle.lw_target.specs.ClientLog.{IsHeldUp}
 use Rattle.lw_target.specs.Letters.{letters}
 use Rattle.lw_target.specs.InOrder.{IsAtRest}
 use Rattle.lw_target.specs.Turns.{Still, CanRest, MayRest, IsRunning, Turned}
-use Rattle.lw_target.proofs.Ending.{either}
+use Rattle.lw_target.proofs.AppEnding.{either}
 
 -- none of several did anything
 pub idle_first : (p q : Bool) → (p || q) ≡ false → p ≡ false

@@ -1,5 +1,5 @@
 use Rattle.std.proofs.Common.{rules, ◌≡◌, length, arith, refl, ap, subst}
-use Rattle.lw_target.proofs.Ending.{begun, begun_on, get_or_twice}
+use Rattle.lw_target.proofs.AppEnding.{begun, begun_on, get_or_twice}
 use Rattle.lw_target.proofs.app.App.begin.Goals as goal
 
 pub loop-place-preserved : goal.loop-place-preserved

@@ -1,7 +1,7 @@
 use Rattle.std.proofs.Common.{◌≡◌, ◌∷◌, [], None, true, vec_len}
 use Rattle.lw_target.specs.declared.device.Device.{Device}
 use Rattle.lw_target.specs.App.{SameCalls}
-use Rattle.lw_target.proofs.Ending.{begun}
+use Rattle.lw_target.proofs.AppEnding.{begun}
 use Rattle.lw_target.proofs.app.App.begin.Given as goal
 
 abbrev pub invariant-loop-place : goal.invariant-loop-place

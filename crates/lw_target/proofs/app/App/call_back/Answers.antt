@@ -1,5 +1,5 @@
 use Rattle.std.proofs.Common.{rules, arith, ap, subst, ◌≡◌, length}
-use Rattle.lw_target.proofs.Ending.{called, called_on, get_or_twice, either}
+use Rattle.lw_target.proofs.AppEnding.{called, called_on, get_or_twice, either}
 use Rattle.lw_target.proofs.app.App.call_back.Goals as goal
 
 pub loop-place-preserved : goal.loop-place-preserved

@@ -2,7 +2,7 @@ use Rattle.std.proofs.Common.{◌≡◌, ◌≤◌, ◌+◌, ◌∷◌, [], true
 use Rattle.lw_target.specs.declared.device.Device.{Device}
 use Rattle.lw_target.specs.App.{SameLines}
 use Rattle.lw_target.specs.Work.{app_work}
-use Rattle.lw_target.proofs.Ending.{called}
+use Rattle.lw_target.proofs.AppEnding.{called}
 use Rattle.lw_target.proofs.app.App.call_back.Given as goal
 
 abbrev pub invariant-loop-place : goal.invariant-loop-place

@@ -1,6 +1,6 @@
 use Rattle.std.proofs.Common.{arith, refl, ap, subst, ◌≡◌, length}
 use Rattle.std.specs.Prelude.{vec_len}
-use Rattle.lw_target.proofs.Ending.{stopped}
+use Rattle.lw_target.proofs.AppEnding.{stopped}
 use Rattle.lw_target.proofs.app.App.stop_owners.Goals as goal
 
 pub returns-clause-one : goal.returns-clause-one

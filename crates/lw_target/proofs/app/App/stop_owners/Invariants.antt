@@ -2,7 +2,7 @@ use Rattle.std.proofs.Common.{◌≡◌, ◌+◌, vec_len}
 use Rattle.std.specs.List.{All}
 use Rattle.lw_target.specs.Messages.{asked_work}
 use Rattle.lw_target.specs.App.{IsStop}
-use Rattle.lw_target.proofs.Ending.{stopped}
+use Rattle.lw_target.proofs.AppEnding.{stopped}
 use Rattle.lw_target.proofs.app.App.stop_owners.Given as goal
 
 abbrev pub invariant-loop-owner : goal.invariant-loop-owner

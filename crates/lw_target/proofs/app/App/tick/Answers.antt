@@ -1,7 +1,7 @@
 use Rattle.std.proofs.Common.{ap, ◌∙◌, sym, subst}
 use Rattle.std.specs.Prelude.{◌||◌}
 use Rattle.lw_target.specs.App.{Calls}
-use Rattle.lw_target.proofs.Ending.{ends_all}
+use Rattle.lw_target.proofs.AppEnding.{ends_all}
 use Rattle.lw_target.proofs.app.App.tick.Goals as goal
 
 pub returns-clause-over : goal.returns-clause-over
