@@ -35,7 +35,7 @@ use Rattle.lw_target.proofs.ClientTicks.{ticked}
 use Rattle.lw_target.proofs.Carrying.{waiting_first}
 
 -- what holds of each element holds of the one at a place
-at_place : {X : Type 0} (P : X → Type 0) (xs : List X) (k : ℕ) (x : X) → slice_get xs k ≡ Some x → All P xs → P x
+pub at_place : {X : Type 0} (P : X → Type 0) (xs : List X) (k : ℕ) (x : X) → slice_get xs k ≡ Some x → All P xs → P x
 at_place P xs k x found all =
     let within : k < length xs = slice_get_within xs k x found in
     subst P (same_Some (get_or xs k x) x (sym (slice_get-get_or xs k x within) ∙ found)) (All-get_or P xs k x within all)
