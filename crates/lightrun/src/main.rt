@@ -13,6 +13,10 @@ mod run;
 mod settings;
 #[cfg(test)]
 mod tests;
+#[cfg(test)]
+mod tests_of_runs;
+#[cfg(test)]
+mod tests_of_walks;
 mod walk;
 mod words;
 mod work;

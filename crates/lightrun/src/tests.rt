@@ -7,7 +7,7 @@ use lw_base::{ListClock, MemSink, MemSource, NoMemory, OpenGate};
 use std::alloc::Global;
 use std::test::Fail;
 
-const FIRST: &str =
+pub(crate) const FIRST: &str =
     "{\"version\":1,\"images\":[{\"name\":\"m\",\"block\":16,\"blocks\":4}],\"clients\":[{\"name\":\"a\",\"depth\":4,\"ops\":[[\"get\",\"m\"],[\"write\",\"m\",0,1,\"ab\"],[\"read\",\"m\",0,1],[\"put\",\"m\"]]}],\"pool\":{\"small\":4,\"large\":1}}";
 
 const REPORT: &str =
@@ -22,9 +22,9 @@ const SECOND_REPORT: &str =
 
 // An end, and what the sink took.
 #[derive(Drop)]
-struct Ended {
-    finish: Finish,
-    written: Vec<u8>,
+pub(crate) struct Ended {
+    pub finish: Finish,
+    pub written: Vec<u8>,
 }
 
 fn clocks(alloc: Global) -> Result<Vec<ListClock>, NoMemory>
@@ -38,7 +38,7 @@ fn clocks(alloc: Global) -> Result<Vec<ListClock>, NoMemory>
 }
 
 // The words of a line with one space between two.
-fn words(alloc: Global, line: &str) -> Result<Vec<String>, NoMemory> {
+pub(crate) fn words(alloc: Global, line: &str) -> Result<Vec<String>, NoMemory> {
     let mut words = Vec::new(alloc);
     for word in line.split(' ') {
         words.push(String::from_str(alloc, word)?)?;
@@ -47,7 +47,7 @@ fn words(alloc: Global, line: &str) -> Result<Vec<String>, NoMemory> {
 }
 
 // Runs the words over a source and a sink that move pieces and fail at one call each, or at none.
-fn end_of(
+pub(crate) fn end_of(
     alloc: Global,
     words: &[String],
     bytes: Vec<u8>,
@@ -68,7 +68,7 @@ fn end_of(
 }
 
 // The same for `run` on a text, with no fault.
-fn run_of(alloc: Global, text: &str, piece: usize) -> Result<Ended, NoMemory>
+pub(crate) fn run_of(alloc: Global, text: &str, piece: usize) -> Result<Ended, NoMemory>
     requires { 1 ≤ piece }
 {
     let bytes = String::from_str(alloc, text)?.into_bytes();
@@ -175,7 +175,10 @@ fn other_words_are_usage(rt: HostRuntime) -> Result<(), Fail> {
     for line in [
         "",
         "Run",
-        "walk",
+        "walk 1",
+        "walk walk",
+        "walk --period 5",
+        "Walk",
         "check",
         "load 7 7",
         "help",

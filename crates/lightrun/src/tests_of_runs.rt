@@ -1,0 +1,42 @@
+//! Whole reports of runs, by the ops of one client on an image of four blocks of 16 bytes.
+use crate::tests::{FIRST, run_of};
+use std::test::Fail;
+
+const FIRST_OPS: &str =
+    "[\"get\",\"m\"],[\"write\",\"m\",0,1,\"ab\"],[\"read\",\"m\",0,1],[\"put\",\"m\"]";
+
+const HEAD: &str =
+    "lightrun report 1\nscheduler static\nreactors 1\nperiod 1000000\npool 4 1\nimages 1\nimage m 16 4\nclients 1\n";
+
+#[test]
+fn reports_are_whole(rt: HostRuntime) -> Result<(), Fail> {
+    let alloc = rt.alloc();
+    for (ops, rest) in [
+        (
+            "",
+            "client a 4 0\nthread 0 app 0\nran 1 0 done\ndid 1 0 began 0\ncalled 1 0\nthread 1 client 0\ndid 0 0 closed\nthread 2 owner 0\nran 0 0 stop\ndevice 0 0 0 1\nhome 4 1\nend\n",
+        ),
+        (
+            "[\"read\",\"m\",0,1]",
+            "client a 4 1\nop read 0 0 1\nthread 0 app 0\nran 1 0 done\ndid 1 0 began 0\ncalled 1 0\nthread 1 client 0\ndid 0 0 nochannel\ndid 0 1 closed\nthread 2 owner 0\nran 0 0 stop\ndevice 0 0 0 1\nhome 4 1\nend\n",
+        ),
+        (
+            "[\"get\",\"m\"],[\"get\",\"m\"],[\"put\",\"m\"],[\"read\",\"m\",0,1],[\"put\",\"m\"]",
+            "client a 4 5\nop get 0\nop get 0\nop put 0\nop read 0 0 1\nop put 0\nthread 0 app 0\nran 1 0 done\ndid 1 0 began 1\ncalled 1 0\nthread 1 client 0\nran 2 0 reply 3\nran 1 0 putself 0\ndid 0 0 given 0\ndid 0 1 again 0\ndid 0 2 counted\ndid 0 3 sent\ndid 1 4 deferred\ndid 1 5 closed\nreply 3 bytes 00000000000000000000000000000000\nthread 2 owner 0\nran 1 0 request 3\nran 0 0 stop\ndevice 0 1 0 1\nhome 4 1\nend\n",
+        ),
+        (
+            "[\"get\",\"m\"],[\"put\",\"m\"],[\"get\",\"m\"],[\"read\",\"m\",0,1]",
+            "client a 4 4\nop get 0\nop put 0\nop get 0\nop read 0 0 1\nthread 0 app 0\nran 1 0 done\ndid 1 0 began 1\ncalled 1 0\nthread 1 client 0\nran 1 0 putself 0\nran 2 0 reply 3\nran 1 1 putself 0\ndid 0 0 given 0\ndid 0 1 deferred\ndid 0 2 again 0\ndid 0 3 sent\ndid 2 4 closed\nreply 3 bytes 00000000000000000000000000000000\nthread 2 owner 0\nran 1 0 request 3\nran 0 0 stop\ndevice 0 1 0 1\nhome 4 1\nend\n",
+        ),
+    ] {
+        let script = FIRST.replacen(alloc, FIRST_OPS, ops, 1)?;
+        let ended = run_of(alloc, script.as_str(), 100)?;
+        let written = ended.written.as_slice();
+        assert!(rt; ended.finish.status == 0 && written.starts_with(HEAD.as_bytes()));
+        assert!(rt;
+            written.ends_with(rest.as_bytes())
+                && written.len() == HEAD.len().saturating_add(rest.len())
+        );
+    }
+    Ok(())
+}
