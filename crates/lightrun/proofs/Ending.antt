@@ -109,7 +109,7 @@ module _ (options : Options) (o : Outside) where
       → (end_status fault ≡ 0) ⊎ (end_status fault ≡ 4) → run_refusal (bytes_read 16777216 left) ≡ None
   not_refused fault told e left at which =
       let found = told_of (run_work options) o fault told e which in
-      (subst (λ (l : Option (List ℕ)). OfBytes 16777216 l (λ bytes. (run_work options).tells bytes found.0)) at found.1.tells).0.accepted
+      (subst (λ (l : Option (List ℕ)). OfBytes 16777216 l (λ bytes. (run_work options).tells bytes found.0)) at found.1.tells).accepted
 
   -- bytes with a refusal and without one
   contrary : (left : List ℕ) (r : ScriptRefusal) → o.left ≡ Some left → OfBytes 16777216 o.left (λ bytes. IsRefused bytes r) → run_refusal (bytes_read 16777216 left) ≡ None → ⊥

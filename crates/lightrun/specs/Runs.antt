@@ -12,14 +12,14 @@ use Rattle.lightrun.specs.declared.fault.Fault.{Fault}
 use Rattle.lightrun.specs.declared.fault.Fault.TheVariants.{Script}
 use Rattle.lightrun.specs.Works.{WorkOf}
 
--- the record is of the script that the bytes are, which the run serves, and it is lawful
+-- the record is of the script that the bytes are, and the run serves it
 pub record IsRunOf (bytes : List ℕ) (r : Record) : Type 0 where
   pub accepted : run_refusal bytes ≡ None
   pub script : script_of bytes ≡ Some r.script
-  pub lawful : Lawful r
 
--- it is of a run under these options
+-- it is lawful, and of a run under these options
 pub record IsRunUnder (o : Options) (r : Record) : Type 0 where
+  pub lawful : Lawful r
   pub scheduler : r.scheduler ≡ o.scheduler
   pub reactors : r.reactors ≡ o.reactors
   pub period : r.period ≡ o.period
@@ -41,7 +41,8 @@ IsScriptFault _ = ⊥
 abbrev pub run_work : Options → WorkOf Record
 run_work options = record {
   most = 16777216;
-  tells = λ bytes r. IsRunOf bytes r × IsRunUnder options r;
+  tells = IsRunOf;
+  holds = IsRunUnder options;
   may_refuse = IsScriptFault;
   refuses = IsRefusedBy;
   text = text_of;

@@ -26,6 +26,7 @@ abbrev pub walk_work : WorkOf (Vec ℕ)
 walk_work = record {
   most = 16777216;
   tells = λ bytes told. IsAnswer bytes told.items;
+  holds = λ told. Unit {0};
   may_refuse = IsWalkFault;
   refuses = HasBadLine;
   text = λ told. told.items;

@@ -5,10 +5,11 @@ use Rattle.lightrun.specs.declared.fault.Fault.{Fault}
 use Rattle.lightrun.specs.declared.fault.Fault.TheVariants.{Usage, Script, Walk, ReadFault, WriteFault, NoMemory}
 use Rattle.lightrun.specs.Bytes.{HasTakenPart}
 
--- how many bytes it takes, what it may tell of bytes, by which faults it refuses bytes and which by each, and the text of what it tells
+-- how many bytes it takes, what it may tell of bytes and at all, by which faults it refuses bytes and which by each, and the text of what it tells
 pub record WorkOf (T : Type 0) : Type 1 where
   pub most : ℕ
   pub tells : List ℕ → T → Type 0
+  pub holds : T → Type 0
   pub may_refuse : Fault → Type 0
   pub refuses : List ℕ → Fault → Type 0
   pub text : T → List ℕ
@@ -47,12 +48,15 @@ Explains w bytes (Script e) = w.may_refuse (Script e) × w.refuses bytes (Script
 Explains w bytes (Walk line) = w.may_refuse (Walk line) × w.refuses bytes (Walk line)
 
 -- bytes are answered within the limit
-abbrev pub Answers : {T : Type 0} → WorkOf T → List ℕ → T → Type 0
-Answers w bytes told = w.tells bytes told × (length bytes ≤ w.most)
+pub record Answers {T : Type 0} (w : WorkOf T) (bytes : List ℕ) (told : T) : Type 0 where
+  pub tells : w.tells bytes told
+  pub holds : w.holds told
+  pub few : length bytes ≤ w.most
 
 -- it is told of the bytes read, and all were read
 pub record IsTold {T : Type 0} (w : WorkOf T) (left after : Option (List ℕ)) (told : T) : Type 0 where
   pub tells : OfBytes w.most left (λ bytes. w.tells bytes told)
+  pub holds : w.holds told
   pub read : IsReadToEnd left after
 
 -- why reading and answering gave nothing to tell
