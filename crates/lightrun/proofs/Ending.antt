@@ -15,7 +15,7 @@ use Rattle.lightrun.specs.Statuses.{end_status}
 use Rattle.lightrun.specs.Works.{Outside, WorkOf, EndsWork, IsTold, OfBytes, bytes_read}
 use Rattle.lightrun.specs.Runs.{IsRefused, run_work}
 use Rattle.lw_base.specs.Walk.{walk_bad_line}
-use Rattle.lightrun.specs.Walks.{IsAnswer, walk_work}
+use Rattle.lightrun.specs.Walks.{walk_work}
 use Rattle.lightrun.specs.Program.{Ends, OfRun, OfWalk, IsDone, IsCutShort, IsRefusal, IsReadFault, IsWalkDone, IsWalkRefusal, IsWalkCutShort}
 
 pub statuses : (fault : Option Fault) → end_status fault ≤ 5

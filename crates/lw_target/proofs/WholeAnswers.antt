@@ -1,6 +1,6 @@
 -- The answers of a whole run: those of the client are the ones that its ops allow, and those of the app come after the client's `done`.
-use Rattle.std.proofs.Common.{ℕ, zero, suc, ◌≡◌, ◌+◌, ◌<◌, ◌≤◌, ◌==◌, nat_lt, nat_le, Bool, true, false, cond, not, ◌&&◌, ◌||◌, List, [], ◌∷◌, ◌++◌, map, length, Option, Some, None, slice_get, refl, sym, ap, ap₂, subst, ◌∙◌, arith, IsTrue}
-use Rattle.std.specs.List.{AllByRecursion, list_all, list_any, enumerate_from, range_with_len}
+use Rattle.std.proofs.Common.{ℕ, zero, suc, ◌≡◌, ◌+◌, ◌≤◌, nat_lt, Bool, true, false, cond, not, ◌&&◌, List, [], ◌∷◌, map, length, Option, Some, None, slice_get, refl, sym, ap, ap₂, subst, ◌∙◌, arith, IsTrue}
+use Rattle.std.specs.List.{AllByRecursion, list_all, list_any, range_with_len}
 use Rattle.std.proofs.lemmas.Bool.{and_parts, and_from, or_left, not_from_false}
 use Rattle.lw_base.specs.declared.message.Tag.{Tag}
 use Rattle.lw_base.specs.declared.message.What.TheVariants as what
@@ -17,11 +17,11 @@ use Rattle.lw_model.specs.declared.record.Answer.TheVariants as answer
 use Rattle.lw_model.specs.declared.step.Step.{Step}
 use Rattle.lw_model.specs.declared.step.Step.TheVariants as step
 use Rattle.lw_model.specs.Threads.{is_client, clients, ops_of, op_at, did_of, ran_of}
-use Rattle.lw_model.specs.OwnOrder.{own_order, own_order_of, with_past, history}
+use Rattle.lw_model.specs.OwnOrder.{own_order, with_past, history}
 use Rattle.lw_model.specs.Holding.{is_closed, is_started}
-use Rattle.lw_model.specs.Answers.{Answers, answer_fits, depth_fits, get_fits, put_fits, request_fits, step_fits, client_did_fits, earlier_completed, is_completed, is_done_of, wanted, at_fits, ats_fit, did_ats, called_ats, called_of}
+use Rattle.lw_model.specs.Answers.{Answers, answer_fits, get_fits, put_fits, request_fits, step_fits, client_did_fits, earlier_completed, is_completed, is_done_of, wanted, at_fits, ats_fit, did_ats, called_ats, called_of}
 use Rattle.lw_target.specs.Ops.{is_servable}
-use Rattle.lw_target.specs.ClientLog.{line_fits, lines_fit}
+use Rattle.lw_target.specs.ClientLog.{line_fits}
 use Rattle.lw_target.specs.WholeRun.{AppEnded, ClientEnded, OwnerEnded}
 use Rattle.lw_target.proofs.WholeParts.{IsMadeOf, each, client_is, owner_is_none, of_app, of_client, of_owner, app_steps, app_order, ran_steps, owner_order, of_in_order, all_first, of_dids}
 

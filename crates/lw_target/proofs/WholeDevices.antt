@@ -1,11 +1,10 @@
 -- The device of a whole run: its ordinals are those that the client was given, and the app unregistered it and was called.
-use Rattle.std.proofs.Common.{ℕ, zero, suc, ◌≡◌, ◌+◌, ◌≤◌, ◌<◌, ◌==◌, nat_lt, Bool, true, false, cond, not, ◌&&◌, ◌||◌, List, [], ◌∷◌, ◌++◌, map, filter_map, length, Option, Some, None, slice_get, unwrap_or, is_none, refl, sym, ap, ap₂, subst, ◌∙◌, inl, inr, arith, IsTrue, count_by, append-nil}
+use Rattle.std.proofs.Common.{ℕ, zero, suc, ◌≡◌, ◌+◌, ◌≤◌, ◌<◌, ◌==◌, nat_lt, Bool, true, false, cond, not, ◌&&◌, ◌||◌, List, [], ◌∷◌, ◌++◌, map, filter_map, length, Option, Some, None, slice_get, unwrap_or, refl, sym, ap, ap₂, subst, ◌∙◌, inl, inr, arith, IsTrue, count_by, append-nil}
 use Rattle.std.specs.List.{AllByRecursion, list_all, list_any, enumerate_from, range_with_len, flat_map, cons_option}
-use Rattle.std.proofs.lemmas.Bool.{and_parts, and_from, or_parts, or_right, or_left, ne_eqb, eq-eqb, cases_order, false≢true, true≢false, not_from_false}
+use Rattle.std.proofs.lemmas.Bool.{and_from, or_parts, or_right, or_left, ne_eqb, eq-eqb, cases_order, false≢true, true≢false, not_from_false}
 use Rattle.std.proofs.lemmas.List.FromFn.{length-range_with_len}
 use Rattle.std.proofs.lemmas.List.Sums.{sum_by-cons}
 use Rattle.lw_base.specs.declared.message.Tag.{Tag}
-use Rattle.lw_base.specs.declared.message.What.TheVariants as what
 use Rattle.lw_model.specs.declared.script.Script.{Script}
 use Rattle.lw_model.specs.declared.record.Record.{Record}
 use Rattle.lw_model.specs.declared.record.ThreadRecord.{ThreadRecord}
@@ -16,10 +15,10 @@ use Rattle.lw_model.specs.declared.record.Answer.{Answer}
 use Rattle.lw_model.specs.declared.record.Answer.TheVariants as answer
 use Rattle.lw_model.specs.declared.step.Step.{Step}
 use Rattle.lw_model.specs.declared.step.Step.TheVariants as step
-use Rattle.lw_model.specs.Threads.{threads, thread_count, is_on, image_at}
+use Rattle.lw_model.specs.Threads.{thread_count, is_on}
 use Rattle.lw_model.specs.OwnOrder.{own_order, own_order_of, with_past, history, steps_of}
-use Rattle.lw_model.specs.Holding.{says, always, held, ordinal_given}
-use Rattle.lw_model.specs.Devices.{DeviceHolds, Devices, device_at, over_steps, ordinal_on, began_on, called_on, is_began, tells_shut, needs_open, is_refusal, callback_fits, refusal_fits}
+use Rattle.lw_model.specs.Holding.{says, always, ordinal_given}
+use Rattle.lw_model.specs.Devices.{DeviceHolds, Devices, device_at, over_steps, ordinal_on, began_on, called_on, tells_shut, needs_open, is_refusal, callback_fits, refusal_fits}
 use Rattle.lw_model.proofs.Growth.{all-in_order, all-append}
 use Rattle.lw_target.specs.WholeRun.{AppEnded, ClientEnded, OwnerEnded}
 use Rattle.lw_target.proofs.WholeParts.{IsMadeOf, each, each_client, of_app, of_client, of_owner, app_steps, app_order, ran_steps, owner_order}

@@ -1,5 +1,5 @@
 -- The record of a whole run of one client on one image is lawful.
-use Rattle.std.proofs.Common.{ℕ, zero, suc, ◌≡◌, ◌+◌, ◌<◌, ◌%◌, Bool, true, false, List, [], ◌∷◌, map, filter_map, length, Option, Some, None, slice_get, unwrap_or, option_map, refl, sym, ap, subst, ◌∙◌, arith, IsTrue}
+use Rattle.std.proofs.Common.{ℕ, ◌≡◌, ◌%◌, true, List, [], ◌∷◌, filter_map, Option, Some, None, slice_get, unwrap_or, option_map, refl, sym, ap, subst, ◌∙◌, arith, IsTrue}
 use Rattle.std.specs.List.{AllByRecursion, list_all, cons_option}
 use Rattle.std.proofs.lemmas.Bool.{false≢true}
 use Rattle.lw_base.specs.declared.message.Tag.{Tag}
@@ -7,7 +7,6 @@ use Rattle.lw_base.specs.declared.message.What.{What}
 use Rattle.lw_base.specs.declared.message.What.TheVariants as what
 use Rattle.lw_model.specs.declared.record.Record.{Record}
 use Rattle.lw_model.specs.declared.record.Hop.{Hop}
-use Rattle.lw_model.specs.declared.record.Seen.{Seen}
 use Rattle.lw_model.specs.declared.record.ThreadRecord.{ThreadRecord}
 use Rattle.lw_model.specs.declared.record.DeviceEnd.{DeviceEnd}
 use Rattle.lw_model.specs.declared.record.Span.{Span}
@@ -16,7 +15,7 @@ use Rattle.lw_model.specs.OwnOrder.{with_past}
 use Rattle.lw_model.specs.Moves.{HomesAndHops, Numbers, home_of, hops_of, hop_fits, number_fits}
 use Rattle.lw_model.specs.Rounds.{RoundsAndOrders, RoundsHold}
 use Rattle.lw_model.specs.Lawful.{Lawful, VisitsSeen, seen_of, seen_by}
-use Rattle.lw_target.specs.WholeRun.{Stayed, are_numbered}
+use Rattle.lw_target.specs.WholeRun.{are_numbered}
 use Rattle.lw_target.proofs.WholeParts.{IsMadeOf, each, each_client, of_app, of_client, of_owner}
 use Rattle.lw_target.proofs.WholeAnswers.{answers}
 use Rattle.lw_target.proofs.WholeSent.{is_back}

@@ -1,6 +1,6 @@
 -- The threads of a whole run, and the steps of each in own order.
-use Rattle.std.proofs.Common.{ℕ, zero, suc, ◌≡◌, ◌+◌, ◌<◌, ◌≤◌, ◌==◌, nat_lt, nat_le, Bool, true, false, cond, not, ◌&&◌, List, [], ◌∷◌, ◌++◌, map, length, Option, Some, None, slice_get, unwrap_or, option_map, refl, sym, ap, subst, ◌∙◌, arith, IsTrue}
-use Rattle.std.specs.List.{AllByRecursion, list_all, enumerate_from, range_with_len}
+use Rattle.std.proofs.Common.{ℕ, zero, suc, ◌≡◌, ◌+◌, ◌≤◌, nat_lt, nat_le, Bool, true, false, cond, ◌&&◌, List, [], ◌∷◌, ◌++◌, map, length, None, slice_get, unwrap_or, option_map, refl, sym, ap, ◌∙◌, arith}
+use Rattle.std.specs.List.{AllByRecursion, list_all, enumerate_from}
 use Rattle.std.proofs.lemmas.Bool.{and_parts, leb-true, le-leb, true≢false}
 use Rattle.lw_base.specs.declared.message.Tag.{Tag}
 use Rattle.lw_base.specs.declared.message.What.TheVariants as what
@@ -13,8 +13,8 @@ use Rattle.lw_model.specs.declared.record.Called.{Called}
 use Rattle.lw_model.specs.declared.record.Answer.TheVariants.{Began}
 use Rattle.lw_model.specs.declared.step.Step.{Step}
 use Rattle.lw_model.specs.declared.step.Step.TheVariants as step
-use Rattle.lw_model.specs.Threads.{thread_count, is_client, of_thread, ops_of, EachThread, EachClient}
-use Rattle.lw_model.specs.OwnOrder.{own_order, own_order_of, steps_of, in_order, put_in, at_of}
+use Rattle.lw_model.specs.Threads.{is_client, of_thread, ops_of, EachThread, EachClient}
+use Rattle.lw_model.specs.OwnOrder.{own_order, in_order, put_in, at_of}
 use Rattle.lw_target.specs.Ops.{is_servable}
 use Rattle.lw_target.specs.WholeRun.{AppEnded, OwnerEnded, IsWholeRun}
 

@@ -1,7 +1,7 @@
 -- The rule that what was run is what was sent, of a whole run.
-use Rattle.std.proofs.Common.{ℕ, zero, suc, ◌≡◌, ◌≢◌, ◌+◌, ◌<◌, ◌==◌, nat_lt, nat_le, Bool, true, false, cond, not, ◌&&◌, ◌||◌, List, [], ◌∷◌, ◌++◌, map, filter, filter_map, length, Option, Some, None, slice_get, refl, sym, ap, ap₂, subst, ◌∙◌, arith, IsTrue, append-nil}
+use Rattle.std.proofs.Common.{ℕ, zero, suc, ◌≡◌, ◌≢◌, ◌+◌, ◌==◌, nat_lt, Bool, true, false, cond, not, ◌||◌, List, [], ◌∷◌, ◌++◌, map, filter_map, Option, Some, None, refl, sym, ap, ap₂, subst, ◌∙◌, arith, IsTrue, append-nil}
 use Rattle.std.specs.List.{AllByRecursion, list_all, list_any, enumerate_from, range_with_len, flat_map, cons_option}
-use Rattle.std.proofs.lemmas.Bool.{and_parts, and_from, ne_eqb, eq-eqb, eqb-true, false≢true}
+use Rattle.std.proofs.lemmas.Bool.{and_from, ne_eqb, eq-eqb, eqb-true, false≢true}
 use Rattle.lw_base.specs.declared.message.Tag.{Tag}
 use Rattle.lw_base.specs.declared.message.What.{What}
 use Rattle.lw_base.specs.declared.message.What.TheVariants as what
@@ -15,15 +15,15 @@ use Rattle.lw_model.specs.declared.record.Answer.{Answer}
 use Rattle.lw_model.specs.declared.record.Answer.TheVariants as answer
 use Rattle.lw_model.specs.declared.step.Step.{Step}
 use Rattle.lw_model.specs.declared.step.Step.TheVariants as step
-use Rattle.lw_model.specs.Threads.{is_client, is_owner, owner_of, clients, images, ran_of}
-use Rattle.lw_model.specs.OwnOrder.{own_order, own_order_of, with_past, history, in_order, steps_of}
-use Rattle.lw_model.specs.Sent.{sent, sent_by, sent_by_did, sent_by_ran, sent_last, all_sent, run_of, tokens, tokens_started_by, must_run, is_same_token}
+use Rattle.lw_model.specs.Threads.{is_client, is_owner, owner_of, images, ran_of}
+use Rattle.lw_model.specs.OwnOrder.{own_order, with_past, history, steps_of}
+use Rattle.lw_model.specs.Sent.{sent, sent_by, sent_by_did, sent_by_ran, all_sent, run_of, tokens, tokens_started_by, must_run, is_same_token}
 use Rattle.lw_model.specs.Journal.{request_of}
 use Rattle.lw_model.specs.Lawful.{RanIsSent, has_run, is_first_run}
 use Rattle.lw_model.proofs.Growth.{all-in_order, all-append}
 use Rattle.lw_target.specs.ClientLog.{sends_of, sends_of_steps}
 use Rattle.lw_target.specs.WholeRun.{AppEnded, ClientEnded, OwnerEnded, run_from, sent_to, requests_of}
-use Rattle.lw_target.proofs.WholeParts.{IsMadeOf, each, client_is, owner_is_none, not_client, of_app, of_client, of_owner, of_none, app_steps, app_order, ran_steps, owner_order}
+use Rattle.lw_target.proofs.WholeParts.{IsMadeOf, each, client_is, owner_is_none, not_client, of_app, of_client, of_owner, of_none, app_order, ran_steps, owner_order}
 use Rattle.lw_target.proofs.WholeAnswers.{is_plain, PlainStep, client_plain}
 use Rattle.lw_target.proofs.WholeSent.{is_back, is_asked, is_send, all_send, sent_to-append, none_to, back_send, request_send, kind_to, of_senders, none_from}
 

@@ -1,9 +1,9 @@
 -- The replies of a whole run: each is that of its request's place in the journal.
-use Rattle.std.proofs.Common.{ℕ, zero, suc, ◌≡◌, ◌≢◌, ◌+◌, ◌≤◌, ◌<◌, ◌==◌, nat_le, Bool, true, false, cond, ◌&&◌, List, [], ◌∷◌, ◌++◌, map, filter, filter_map, zip, length, Option, Some, None, option_map, refl, sym, ap, ap₂, subst, ◌∙◌, arith, IsTrue}
+use Rattle.std.proofs.Common.{ℕ, ◌≡◌, ◌+◌, ◌≤◌, ◌<◌, ◌==◌, nat_le, Bool, true, false, cond, ◌&&◌, List, [], ◌∷◌, ◌++◌, map, filter, filter_map, zip, length, Option, Some, None, option_map, refl, sym, ap, ap₂, subst, ◌∙◌, arith}
 use Rattle.std.specs.Prelude.{option_and_then}
 use Rattle.std.specs.List.{AllByRecursion, list_all, enumerate_from, cons_option}
 use Rattle.std.proofs.lemmas.List.{append_assoc}
-use Rattle.std.proofs.lemmas.Bool.{and_parts, eq-eqb, ne_eqb, eqb-true, le-leb, leb-true, false≢true, true≢false}
+use Rattle.std.proofs.lemmas.Bool.{and_parts, eq-eqb, ne_eqb, eqb-true, le-leb, leb-true, false≢true}
 use Rattle.lw_base.specs.declared.message.Tag.{Tag}
 use Rattle.lw_base.specs.declared.message.What.{What}
 use Rattle.lw_base.specs.declared.message.What.TheVariants as what
@@ -22,14 +22,14 @@ use Rattle.lw_model.specs.declared.step.Step.TheVariants as step
 use Rattle.lw_model.specs.ScriptRules.{block_at}
 use Rattle.lw_model.specs.Replay.{replay}
 use Rattle.lw_model.specs.Threads.{is_on, image_at, op_at, owner_of, ran_of}
-use Rattle.lw_model.specs.OwnOrder.{own_order, own_order_of, with_past, in_order, put_in, at_of, steps_of}
+use Rattle.lw_model.specs.OwnOrder.{own_order, with_past, in_order, put_in, at_of}
 use Rattle.lw_model.specs.Answers.{at_fits}
-use Rattle.lw_model.specs.Journal.{request_of, journal, answers, look_up, reply_of, sent_op, IsOfClients}
+use Rattle.lw_model.specs.Journal.{request_of, journal, answers, look_up, sent_op}
 use Rattle.lw_model.specs.Lawful.{Replies, replies_of, replied_ops, reply_op, owed}
-use Rattle.lw_model.proofs.Growth.{all-in_order, all-append, all_dids}
+use Rattle.lw_model.proofs.Growth.{all-in_order}
 use Rattle.lw_model.proofs.JournalParts.{journal_part}
-use Rattle.lw_target.specs.ClientLog.{line_fits, lines_fit}
-use Rattle.lw_target.specs.WholeRun.{ClientEnded, OwnerEnded, requests_of, answers_of, reply_pairs}
+use Rattle.lw_target.specs.ClientLog.{line_fits}
+use Rattle.lw_target.specs.WholeRun.{ClientEnded, requests_of, answers_of, reply_pairs}
 use Rattle.lw_target.proofs.WholeParts.{IsMadeOf, each_client, client_is, of_client, of_owner, ran_steps, of_in_order, all_first}
 use Rattle.lw_target.proofs.WholeSent.{is_asked}
 use Rattle.lw_target.proofs.WholeRan.{AskedTag, owner_asked, ran_is_sent}

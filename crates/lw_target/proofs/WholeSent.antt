@@ -1,8 +1,8 @@
 -- In a whole run each thread ran what the others sent it, all of it and nothing else.
-use Rattle.std.proofs.Common.{ℕ, zero, suc, ◌≡◌, ◌≢◌, ◌+◌, ◌<◌, ◌==◌, nat_lt, nat_le, Bool, true, false, cond, not, ◌&&◌, ◌||◌, List, [], ◌∷◌, ◌++◌, map, filter, filter_map, length, Option, Some, None, slice_get, option_to_list, option_map, refl, sym, ap, ap₂, subst, ◌∙◌, arith, IsTrue, append-nil}
+use Rattle.std.proofs.Common.{ℕ, ◌≡◌, ◌≢◌, ◌==◌, Bool, true, false, cond, ◌||◌, List, [], ◌∷◌, ◌++◌, map, filter, length, Option, Some, None, option_to_list, option_map, refl, sym, ap, subst, ◌∙◌, arith}
 use Rattle.std.specs.Prelude.{option_and_then}
-use Rattle.std.specs.List.{AllByRecursion, list_all, list_any, enumerate_from, range_with_len, flat_map, cons_option}
-use Rattle.std.proofs.lemmas.Bool.{and_parts, and_from, or_left, ne_eqb, eqb-true, ltb-true, false≢true, true≢false}
+use Rattle.std.specs.List.{AllByRecursion, list_all, flat_map}
+use Rattle.std.proofs.lemmas.Bool.{and_parts, and_from, ne_eqb, eqb-true, ltb-true, false≢true}
 use Rattle.std.proofs.lemmas.List.{map-append}
 use Rattle.std.proofs.lemmas.List.Elements.{filter-append}
 use Rattle.std.proofs.lemmas.List.Folds.{list_all-append}
@@ -12,27 +12,18 @@ use Rattle.lw_base.specs.declared.message.What.TheVariants as what
 use Rattle.lw_model.specs.declared.script.Script.{Script}
 use Rattle.lw_model.specs.declared.script.Op.{Op}
 use Rattle.lw_model.specs.declared.script.Op.TheVariants as op
-use Rattle.lw_model.specs.declared.record.Record.{Record}
-use Rattle.lw_model.specs.declared.record.ThreadRecord.{ThreadRecord}
-use Rattle.lw_model.specs.declared.record.DeviceEnd.{DeviceEnd}
-use Rattle.lw_model.specs.declared.record.Did.{Did}
-use Rattle.lw_model.specs.declared.record.Called.{Called}
 use Rattle.lw_model.specs.declared.record.Answer.{Answer}
 use Rattle.lw_model.specs.declared.record.Answer.TheVariants as answer
 use Rattle.lw_model.specs.declared.step.Step.{Step}
 use Rattle.lw_model.specs.declared.step.Step.TheVariants as step
 use Rattle.lw_model.specs.ScriptRules.{image_of}
-use Rattle.lw_model.specs.Threads.{is_client, is_owner, owner_of, clients, images, ops_of, op_at, image_at, ran_of}
-use Rattle.lw_model.specs.OwnOrder.{own_order, own_order_of, with_past, history, in_order, steps_of}
-use Rattle.lw_model.specs.Sent.{sent, sent_by, sent_by_did, sent_by_ran, sent_last, all_sent, run_of, tokens, tokens_started_by, must_run, is_same_token, referred}
-use Rattle.lw_model.specs.Journal.{request_of}
-use Rattle.lw_model.specs.Lawful.{RanIsSent, has_run, is_first_run}
-use Rattle.lw_model.proofs.Growth.{all-in_order, all-append}
+use Rattle.lw_model.specs.Threads.{owner_of, ops_of, op_at, image_at}
+use Rattle.lw_model.specs.OwnOrder.{with_past}
+use Rattle.lw_model.specs.Sent.{referred}
 use Rattle.lw_target.specs.Ops.{is_servable}
-use Rattle.lw_target.specs.ClientLog.{sends_of, sends_of_steps}
-use Rattle.lw_target.specs.WholeRun.{AppEnded, ClientEnded, OwnerEnded, run_from, sent_to, requests_of}
-use Rattle.lw_target.proofs.WholeParts.{IsMadeOf, each, client_is, owner_is_none, of_app, of_client, of_owner, of_none, not_client, app_steps, app_order, ran_steps, owner_order}
-use Rattle.lw_target.proofs.WholeAnswers.{is_plain, PlainStep, MayServe, may_serve, client_plain}
+use Rattle.lw_target.specs.ClientLog.{sends_of}
+use Rattle.lw_target.specs.WholeRun.{run_from, sent_to}
+use Rattle.lw_target.proofs.WholeAnswers.{MayServe, may_serve}
 
 -- ---- What kinds of messages there are
 

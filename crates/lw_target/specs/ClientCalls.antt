@@ -5,7 +5,6 @@ use Rattle.lw_base.specs.declared.message.Tag.{Tag}
 use Rattle.lw_base.specs.declared.message.What.{What}
 use Rattle.lw_base.specs.declared.message.What.TheVariants as what
 use Rattle.lw_model.specs.declared.script.Script.{Script}
-use Rattle.lw_model.specs.declared.step.Step.{Step}
 use Rattle.lw_model.specs.declared.record.Reply.{Reply}
 use Rattle.lw_model.specs.Threads.{is_on}
 use Rattle.lw_model.specs.Holding.{is_putself, ordinal_given}

@@ -1,11 +1,10 @@
 -- What a run of one client on one image leaves when all its threads have ended: the logs of the app, the client and the owner.
-use Rattle.std.specs.Prelude.{ℕ, ◌+◌, ◌≡◌, ◌==◌, ◌||◌, Bool, true, false, List, [], ◌∷◌, length, map, filter, filter_map, zip, Option, Some, None, option_map}
+use Rattle.std.specs.Prelude.{ℕ, ◌+◌, ◌≡◌, ◌==◌, ◌||◌, Bool, true, false, List, [], ◌∷◌, length, map, filter, filter_map, zip, Option, Some}
 use Rattle.std.specs.List.{range_with_len, list_all, list_any}
 use Rattle.lw_base.specs.declared.message.Tag.{Tag}
 use Rattle.lw_base.specs.declared.message.What.{What}
 use Rattle.lw_base.specs.declared.message.What.TheVariants as what
 use Rattle.lw_model.specs.declared.script.Script.{Script}
-use Rattle.lw_model.specs.declared.step.Step.{Step}
 use Rattle.lw_model.specs.declared.record.ThreadRecord.{ThreadRecord}
 use Rattle.lw_model.specs.declared.record.DeviceEnd.{DeviceEnd}
 use Rattle.lw_model.specs.declared.record.Replied.{Replied}
@@ -17,7 +16,7 @@ use Rattle.lw_model.specs.Journal.{request_of}
 use Rattle.lw_model.specs.Threads.{ops_of, op_at, is_on}
 use Rattle.lw_model.specs.OwnOrder.{own_order, with_past}
 use Rattle.lw_model.specs.Moves.{number_fits}
-use Rattle.lw_model.specs.Holding.{says, always, held, ordinal_given}
+use Rattle.lw_model.specs.Holding.{says, always, ordinal_given}
 use Rattle.lw_model.specs.Devices.{is_refusal}
 use Rattle.lw_model.specs.Lawful.{reply_op}
 use Rattle.lw_target.specs.ClientLog.{sends_of_steps, lines_fit, ats_ascend}

@@ -1,4 +1,3 @@
-use Rattle.std.proofs.Common.{◌∙◌, Result, Ok, Err}
 use Rattle.lw_target.proofs.RunLawful.{all_lawful, record_of}
 use Rattle.lw_target.proofs.run.run_script.Goals as goal
 
