@@ -37,3 +37,5 @@ mod WholeDevices
 mod WholeReplies
 mod WholeLawful
 mod RunLawful
+pub mod AppEach
+pub mod AppRounds

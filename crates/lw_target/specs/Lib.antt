@@ -5,6 +5,7 @@ pub mod Owner
 pub mod Work
 pub mod Client
 pub mod App
+pub mod AppCalls
 pub mod Turns
 pub mod Run
 pub mod Sample

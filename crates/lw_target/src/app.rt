@@ -1,6 +1,6 @@
 //! The app: once every client is done it unregisters the devices, makes their callbacks and stops the owners.
-ghost use Rattle.std.specs.Prelude.{[], ◌∷◌, ◌++◌, min, None, is_none, slice_set, replicate, ◌≡◌, ◌≢◌, ◌<◌, ◌≤◌, ◌+◌, ◌↔◌, length, vec_len, cond, true, false, nat_lt, count_by, slice_index_or, OnOk, IfOk, IsTrue};
-ghost use Rattle.std.specs.List.{All, list_all};
+ghost use Rattle.std.specs.Prelude.{[], ◌∷◌, ◌++◌, min, None, is_none, slice_set, replicate, ◌≡◌, ◌≢◌, ◌<◌, ◌≤◌, ◌+◌, ◌↔◌, length, vec_len, cond, true, false, nat_lt, count_by, slice_index_or, option_to_list, OnOk, IfOk, IsTrue};
+ghost use Rattle.std.specs.List.{All, list_all, list_any};
 
 use crate::acts::Acts;
 use crate::device::Device;
@@ -34,6 +34,7 @@ impl App {
     ghost use Rattle.lw_target.specs.declared.device.Device.{Device};
     ghost use Rattle.lw_target.specs.Answers.{unregister_answer};
     ghost use Rattle.lw_target.specs.App.{Advance, IsStop, IsDue, IsUnused, Ends, Begins, Calls, Stops, SameCalls, SameLines, unregistered, called_back};
+    ghost use Rattle.lw_target.specs.AppCalls.{BeginsAll, CallsAll, StopsAll, Ticked, callback, still_owed, behind_callback};
     ghost use Rattle.lw_target.specs.Work.{app_work};
 
     /// The app of a run with so many clients and devices.
@@ -80,6 +81,8 @@ impl App {
             → (self.new ≡ self.old) × (acts.new ≡ acts.old) × (devices.new ≡ devices.old) }
         ensures ended { self.old.ended ≡ true
             → (self.new ≡ self.old) × (acts.new ≡ acts.old) × (devices.new ≡ devices.old) }
+        ensures each { OnOk result (self.old.clients ≤ self.old.done → self.old.ended ≡ false
+            → Ticked self.old self.new acts.old acts.new devices.old devices.new) }
         ensures over { IfOk result (λ worked. IsDue self.old → (v : Device) → devices.old ≡ v ∷ [] → IsUnused v
             → (worked ≡ true) × Ends self.old self.new acts.old acts.new v devices.new) }
     {
@@ -98,6 +101,8 @@ impl App {
         ensures devices { OnOk result (vec_len self.new.owed ≡ vec_len self.old.owed) }
         ensures ended { OnOk result (self.new.ended ≡ self.old.ended) }
         ensures work { IfOk result (λ worked. app_work self.new + cond worked 1 0 ≤ app_work self.old) }
+        ensures each { OnOk result (self.old.began ≡ false → BeginsAll self.old self.new at devices.old devices.new) }
+        ensures again { OnOk result (self.old.began ≡ true → (self.new ≡ self.old) × (devices.new ≡ devices.old)) }
         ensures one { IfOk result (λ worked. self.old.began ≡ false → (v : Device) → devices.old ≡ v ∷ [] → v.shut_by ≡ None
             → (worked ≡ true) × Begins self.old self.new at v devices.new) }
     {
@@ -140,6 +145,7 @@ impl App {
         ensures devices { OnOk result (vec_len self.new.owed ≡ vec_len self.old.owed) }
         ensures ended { OnOk result (self.new.ended ≡ self.old.ended) }
         ensures work { IfOk result (λ worked. app_work self.new + cond worked 1 0 ≤ app_work self.old) }
+        ensures each { OnOk result (CallsAll self.old self.new at devices.old devices.new) }
         ensures one { IfOk result (λ called. (v : Device) → devices.old ≡ v ∷ [] → v.standing ≡ 0
             → self.old.owed.items ≡ true ∷ [] → Calls self.old self.new at v devices.new) }
     {
@@ -156,6 +162,11 @@ impl App {
         ensures devices { OnOk result (vec_len self.new.owed ≡ vec_len self.old.owed) }
         ensures rest { OnOk result (SameLines self.old self.new) }
         ensures work { IfOk result (λ made. app_work self.new + cond made 1 0 ≤ app_work self.old) }
+        ensures owed { OnOk result (self.new.owed.items ≡ slice_set self.old.owed.items place
+            (still_owed (slice_index_or self.old.owed.items place false, device.old))) }
+        ensures listed { OnOk result (self.new.called ≡ self.old.called
+            ++ option_to_list (callback at place (slice_index_or self.old.owed.items place false, device.old))) }
+        ensures device { OnOk result (device.new ≡ behind_callback (slice_index_or self.old.owed.items place false, device.old)) }
         ensures due { OnOk result (slice_index_or self.old.owed.items place false ≡ true → device.old.standing ≡ 0
             → (self.new.owed.items ≡ slice_set self.old.owed.items place false)
             × (self.new.called ≡ self.old.called ++ record { at = at; device = place } ∷ [])
@@ -193,9 +204,10 @@ impl App {
     fn stop_owners(&mut self, acts: &mut Acts) -> Result<bool, NoMemory>
         requires { self.old.ended ≡ false }
         ensures advance { IfOk result (λ worked. Advance self.old self.new acts.old acts.new (cond worked 1 0)) }
+        ensures each { OnOk result (StopsAll self.old self.new acts.old acts.new) }
         ensures one { IfOk result (λ stopped. self.old.owed.items ≡ false ∷ [] → Stops self.old self.new acts.old acts.new) }
     {
-        if self.owed.contains(&true) {
+        if self.owes_some() {
             return Ok(false);
         }
         for owner in 0..self.owed.len() {
@@ -203,6 +215,13 @@ impl App {
         }
         self.ended = true;
         Ok(true)
+    }
+
+    // Whether a callback is owed.
+    fn owes_some(&self) -> bool
+        ensures { result ≡ list_any (λ b. b) self.now.owed.items }
+    {
+        self.owed.iter().any(|owed| *owed)
     }
 
     /// Whether it has asked to end.
