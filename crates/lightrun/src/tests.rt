@@ -57,7 +57,7 @@ pub(crate) fn end_of(
     requires { 1 ≤ piece }
 {
     let mut source = MemSource::new(bytes, piece, vec![in alloc; fails.0]?);
-    let room = Vec::with_capacity(alloc, 8192)?;
+    let room = Vec::with_capacity(alloc, 131_072)?;
     let mut sink = MemSink::new(room, piece, vec![in alloc; fails.1]?);
     let clocks = clocks(alloc)?;
     let finish = lightrun(&(), alloc, words, &mut source, &mut sink, clocks, &OpenGate);

@@ -1,5 +1,7 @@
 //! Whole reports of runs, by the ops of one client on an image of four blocks of 16 bytes.
-use crate::tests::{FIRST, run_of};
+use crate::tests::{Ended, FIRST, run_of};
+use lw_base::NoMemory;
+use std::alloc::Global;
 use std::test::Fail;
 
 const FIRST_OPS: &str =
@@ -37,6 +39,86 @@ fn reports_are_whole(rt: HostRuntime) -> Result<(), Fail> {
             written.ends_with(rest.as_bytes())
                 && written.len() == HEAD.len().saturating_add(rest.len())
         );
+    }
+    Ok(())
+}
+
+// The run of a get, some ops so many times, and some last ones, at a depth.
+fn run_many(
+    alloc: Global,
+    depth: &str,
+    ops: &str,
+    times: u32,
+    last: &str,
+) -> Result<Ended, NoMemory> {
+    let mut all = String::from_str(alloc, "[\"get\",\"m\"]")?;
+    for _ in 0..times {
+        all.push(',')?;
+        all.push_str(ops)?;
+    }
+    all.push_str(last)?;
+    let script = FIRST.replacen(alloc, FIRST_OPS, all.as_str(), 1)?;
+    let script = script.replacen(alloc, "\"depth\":4", depth, 1)?;
+    run_of(alloc, script.as_str(), 4096)
+}
+
+// Whether a run was done, and its report has these lines one after the other.
+fn reports(ended: Ended, lines: &str) -> bool {
+    match String::from_utf8(ended.written) {
+        Ok(text) => ended.finish.status == 0 && text.contains(lines),
+        Err(_) => false,
+    }
+}
+
+#[test]
+fn many_ops_are_run(rt: HostRuntime) -> Result<(), Fail> {
+    let alloc = rt.alloc();
+    for (depth, ops, times, last, lines) in [
+        (
+            "\"depth\":1",
+            "[\"read\",\"m\",0,1]",
+            20u32,
+            "",
+            "did 18 19 sent\ndid 19 20 sent\ndid 20 21 closed\nreply 1 bytes 00000000000000000000000000000000\n",
+        ),
+        (
+            "\"depth\":32",
+            "[\"write\",\"m\",0,1,\"ab\"]",
+            40,
+            ",[\"put\",\"m\"]",
+            "did 31 39 sent\ndid 39 40 sent\ndid 40 41 deferred\ndid 40 42 closed\nreply 1 ok\n",
+        ),
+        (
+            "\"depth\":8",
+            "[\"write\",\"m\",0,1,\"aa\"],[\"read\",\"m\",0,1],[\"write\",\"m\",0,1,\"bb\"],[\"read\",\"m\",0,1]",
+            1,
+            "",
+            "reply 1 ok\nreply 2 bytes aaaaaaaaaaaaaaaaaaaaaaaaaaaaaaaa\nreply 3 ok\nreply 4 bytes bbbbbbbbbbbbbbbbbbbbbbbbbbbbbbbb\nthread 2",
+        ),
+        (
+            "\"depth\":8",
+            "[\"write\",\"m\",1,1,\"aa\"],[\"read\",\"m\",0,3]",
+            1,
+            "",
+            "reply 2 bytes 00000000000000000000000000000000aaaaaaaaaaaaaaaaaaaaaaaaaaaaaaaa00000000000000000000000000000000\n",
+        ),
+        (
+            "\"depth\":8",
+            "[\"put\",\"m\"],[\"get\",\"m\"]",
+            499,
+            ",[\"put\",\"m\"]",
+            "did 496 998 again 124\ndid 496 999 deferred\ndid 496 1000 closed\nthread 2 owner 0\nran 0 0 stop\ndevice 0 125 0 1\n",
+        ),
+        (
+            "\"depth\":8",
+            "[\"write\",\"m\",1,1,\"aa\"],[\"read\",\"m\",1,1]",
+            499,
+            ",[\"put\",\"m\"]",
+            "did 991 998 sent\ndid 998 999 deferred\ndid 998 1000 closed\nreply 1 ok\n",
+        ),
+    ] {
+        let ended = run_many(alloc, depth, ops, times, last)?;
+        assert!(rt; reports(ended, lines), "at {lines}");
     }
     Ok(())
 }
