@@ -1,3 +1,5 @@
+mod WorkEnding
+mod CommandEnding
 mod Ending
 mod Streams
 mod WordExamples

@@ -3,7 +3,7 @@ use Rattle.std.proofs.Common.{◌≡◌, ℕ, List, [], ◌∷◌, codes, Option
 use Rattle.lw_model.specs.declared.record.Scheduler.TheVariants.{Static, Dynamic}
 use Rattle.lw_target.specs.declared.options.Options.{Options}
 use Rattle.lightrun.specs.declared.words.Command.{Command}
-use Rattle.lightrun.specs.declared.words.Command.TheVariants.{Run}
+use Rattle.lightrun.specs.declared.words.Command.TheVariants.{Run, Check}
 use Rattle.lightrun.specs.Words.{command_of, given_from, options_of, values_of}
 
 -- `run` with a period and the defaults of the others
@@ -54,6 +54,12 @@ word_behind = refl
 
 option_first : command_of (codes "--period" ∷ codes "5" ∷ codes "run" ∷ []) ≡ None
 option_first = refl
+
+check_alone : command_of (codes "check" ∷ []) ≡ Some Check
+check_alone = refl
+
+check_an_option : command_of (codes "check" ∷ codes "--period=5" ∷ []) ≡ None
+check_an_option = refl
 
 -- what words say beyond what is served so far
 abbrev options_by : List (List ℕ) → Option Options

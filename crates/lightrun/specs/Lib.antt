@@ -6,4 +6,5 @@ pub mod Statuses
 pub mod Works
 pub mod Runs
 pub mod Walks
+pub mod Checks
 pub mod Program

@@ -9,7 +9,7 @@ use Rattle.lw_model.specs.declared.record.Scheduler.TheVariants.{Static, Dynamic
 use Rattle.lw_model.specs.ScriptRules.{is_within}
 use Rattle.lw_target.specs.declared.options.Options.{Options}
 use Rattle.lightrun.specs.declared.words.Command.{Command}
-use Rattle.lightrun.specs.declared.words.Command.TheVariants.{Run, Walk}
+use Rattle.lightrun.specs.declared.words.Command.TheVariants.{Run, Walk, Check}
 
 -- ---- options and their values
 
@@ -108,4 +108,4 @@ alone command (word ∷ rest) = None
 -- the command that the words are, if any: the first word names it
 abbrev pub command_of : List (List ℕ) → Option Command
 command_of [] = None
-command_of (word ∷ rest) = if bytes_eq word (codes "run") then run_by rest else if bytes_eq word (codes "walk") then alone Walk rest else None
+command_of (word ∷ rest) = if bytes_eq word (codes "run") then run_by rest else if bytes_eq word (codes "walk") then alone Walk rest else if bytes_eq word (codes "check") then alone Check rest else None

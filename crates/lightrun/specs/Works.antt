@@ -2,7 +2,7 @@
 use Rattle.std.specs.Prelude.{◌≡◌, ◌+◌, ◌≤◌, ℕ, List, [], length, take, Option, Some, None, IfSome}
 use Rattle.lw_base.specs.Outside.{Rose, HasTaken}
 use Rattle.lightrun.specs.declared.fault.Fault.{Fault}
-use Rattle.lightrun.specs.declared.fault.Fault.TheVariants.{Usage, Script, Walk, ReadFault, WriteFault, NoMemory}
+use Rattle.lightrun.specs.declared.fault.Fault.TheVariants.{Usage, Script, Walk, Unlawful, ReadFault, WriteFault, NoMemory}
 use Rattle.lightrun.specs.Bytes.{HasTakenPart}
 
 -- how many bytes it takes, what it may tell of bytes and at all, by which faults it refuses bytes and which by each, and the text of what it tells
@@ -46,6 +46,7 @@ Explains w bytes WriteFault = ⊥
 Explains w bytes NoMemory = Unit {0}
 Explains w bytes (Script e) = w.may_refuse (Script e) × w.refuses bytes (Script e)
 Explains w bytes (Walk line) = w.may_refuse (Walk line) × w.refuses bytes (Walk line)
+Explains w bytes (Unlawful clause line) = w.may_refuse (Unlawful clause line) × w.refuses bytes (Unlawful clause line)
 
 -- bytes are answered within the limit
 pub record Answers {T : Type 0} (w : WorkOf T) (bytes : List ℕ) (told : T) : Type 0 where
@@ -67,6 +68,7 @@ ExplainsRead w left before after WriteFault = ⊥
 ExplainsRead w left before after NoMemory = Unit {0}
 ExplainsRead w left before after (Script e) = w.may_refuse (Script e) × OfBytes w.most left (λ bytes. w.refuses bytes (Script e))
 ExplainsRead w left before after (Walk line) = w.may_refuse (Walk line) × OfBytes w.most left (λ bytes. w.refuses bytes (Walk line))
+ExplainsRead w left before after (Unlawful clause line) = w.may_refuse (Unlawful clause line) × OfBytes w.most left (λ bytes. w.refuses bytes (Unlawful clause line))
 
 -- how writing a text ends, with what it is the text of
 abbrev pub EndsText : {T : Type 0} → T → List ℕ → Option (List ℕ) → Option (List ℕ) → ℕ → ℕ → Type 0 → Option Fault → Option T → Type 0
@@ -84,3 +86,4 @@ EndsWork w o (Some WriteFault) told = (t : _) × (told ≡ Some t) × IsTold w o
 EndsWork w o (Some NoMemory) told = (told ≡ None) × o.untouched
 EndsWork w o (Some (Script e)) told = (told ≡ None) × w.may_refuse (Script e) × OfBytes w.most o.left (λ bytes. w.refuses bytes (Script e)) × o.untouched
 EndsWork w o (Some (Walk line)) told = (told ≡ None) × w.may_refuse (Walk line) × OfBytes w.most o.left (λ bytes. w.refuses bytes (Walk line)) × o.untouched
+EndsWork w o (Some (Unlawful clause line)) told = (told ≡ None) × w.may_refuse (Unlawful clause line) × OfBytes w.most o.left (λ bytes. w.refuses bytes (Unlawful clause line)) × o.untouched

@@ -17,6 +17,10 @@ pub enum Fault {
     /// The bytes read are no walk: the first bad line, from 1, and 0 where there are too many bytes.
     #[error("walk: line {line}")]
     Walk { line: u64 },
+    /// The bytes read are no lawful report: the first rule that they fail, and the first line at which they do. Rule 0
+    /// is that they are a record's text; it fails at line 0 where there are too many bytes.
+    #[error("unlawful: clause {clause} line {line}")]
+    Unlawful { clause: u8, line: u64 },
     /// The source failed.
     #[error("read failed")]
     ReadFault,
@@ -28,7 +32,7 @@ pub enum Fault {
 }
 
 impl Fault {
-    /// The exit status: 1 usage, 2 script or walk, 3 read fault, 4 write fault, 5 no memory.
+    /// The exit status: 1 usage, 2 script or walk, 3 read fault, 4 write fault, 5 no memory, 6 unlawful.
     pub fn status(&self) -> u8
         ensures { result ≡ status_of self.now }
     {
@@ -36,6 +40,7 @@ impl Fault {
             Fault::Usage => 1,
             Fault::Script(_) => 2,
             Fault::Walk { .. } => 2,
+            Fault::Unlawful { .. } => 6,
             Fault::ReadFault => 3,
             Fault::WriteFault => 4,
             Fault::NoMemory => 5,

@@ -5,6 +5,7 @@ ghost use Rattle.std.specs.Prelude.{◌≡◌, vec_len, IfOk};
 
 mod adapters;
 mod asked;
+mod check;
 mod fault;
 mod finish;
 mod program;
@@ -13,6 +14,8 @@ mod run;
 mod settings;
 #[cfg(test)]
 mod tests;
+#[cfg(test)]
+mod tests_of_checks;
 #[cfg(test)]
 mod tests_of_runs;
 #[cfg(test)]

@@ -7,8 +7,11 @@ ghost use Rattle.lightrun.specs.Served.{Serves};
 ghost use Rattle.lightrun.specs.Runs.{run_work};
 ghost use Rattle.lightrun.specs.Works.{bytes_read};
 ghost use Rattle.lw_base.specs.Walk.{walk_bad_line};
-ghost use Rattle.lightrun.specs.Program.{Ends, OfRun, OfWalk, IsDone, IsCutShort, IsRefusal, IsReadFault, IsWalkDone, IsWalkRefusal, IsWalkCutShort};
+ghost use Rattle.lw_judge.specs.Reports.{report_limit, IsLawfulReport};
+ghost use Rattle.lightrun.specs.declared.words.Command.TheVariants as named;
+ghost use Rattle.lightrun.specs.Program.{Ends, OfRun, OfWalk, OfCheck, IsDone, IsCutShort, IsRefusal, IsReadFault, IsWalkDone, IsWalkRefusal, IsWalkCutShort, IsCheckDone, IsCheckCutShort, IsUnlawful};
 
+use crate::check::CheckWork;
 use crate::fault::Fault;
 use crate::finish::Finish;
 use crate::run::RunWork;
@@ -44,6 +47,11 @@ pub fn lightrun<I: Source, O: Sink, C: Clock + Drop, G: Gate, R>(
         → IsWalkDone (I.left input.old) (I.left input.new) (O.holds out.old) (O.holds out.new) result.fault result.told) }
     ensures walk_refused { OfWalk (command_of (map string_bytes words.now)) (result.status ≡ 2
         → IsWalkRefusal (I.left input.old) result.fault) }
+    ensures checked { OfCheck (command_of (map string_bytes words.now)) (result.status ≡ 0
+        → IsCheckDone (I.left input.old) (I.left input.new) (O.holds out.old) (O.holds out.new) result.fault result.told) }
+    ensures unlawful { result.status ≡ 6 → (command_of (map string_bytes words.now) ≡ Some named.Check)
+        × IsUnlawful (I.left input.old) result.fault }
+    ensures no_script { result.status ≡ 2 → command_of (map string_bytes words.now) ≢ Some named.Check }
     ensures read_fault { result.status ≡ 3 → IsReadFault (I.faults input.old) (I.faults input.new) result.fault }
     ensures write_fault { OfRun (command_of (map string_bytes words.now)) (λ options. result.status ≡ 4
         → IsCutShort (run_work options) (I.left input.old) (I.left input.new) (O.holds out.old) (O.holds out.new)
@@ -51,8 +59,11 @@ pub fn lightrun<I: Source, O: Sink, C: Clock + Drop, G: Gate, R>(
     ensures walk_cut_short { OfWalk (command_of (map string_bytes words.now)) (result.status ≡ 4
         → IsWalkCutShort (I.left input.old) (I.left input.new) (O.holds out.old) (O.holds out.new)
         (O.faults out.old) (O.faults out.new) result.fault result.told) }
+    ensures check_cut_short { OfCheck (command_of (map string_bytes words.now)) (result.status ≡ 4
+        → IsCheckCutShort (I.left input.old) (I.left input.new) (O.holds out.old) (O.holds out.new)
+        (O.faults out.old) (O.faults out.new) result.fault result.told) }
     ensures unwritten { result.status ≢ 0 → result.status ≢ 4 → (result.told ≡ None) × (out.new ≡ out.old) }
-    ensures statuses { result.status ≤ 5 }
+    ensures statuses { result.status ≤ 6 }
     ensures complete { OfRun (command_of (map string_bytes words.now)) (λ _. (left : List ℕ) → I.left input.old ≡ Some left
         → run_refusal (bytes_read 16777216 left) ≡ None
         → ¬ Rose (I.faults input.old) (I.faults input.new) → ¬ Rose (O.faults out.old) (O.faults out.new)
@@ -65,6 +76,15 @@ pub fn lightrun<I: Source, O: Sink, C: Clock + Drop, G: Gate, R>(
         → (result.status ≡ 0) ⊎ (result.status ≡ 5)) }
     ensures walk_not_refused { OfWalk (command_of (map string_bytes words.now)) ((left : List ℕ) → I.left input.old ≡ Some left
         → (result.status ≡ 0) ⊎ (result.status ≡ 4) → walk_bad_line (bytes_read 16777216 left) ≡ None) }
+    ensures check_complete { OfCheck (command_of (map string_bytes words.now)) ((left : List ℕ) → I.left input.old ≡ Some left
+        → IsLawfulReport (bytes_read report_limit left)
+        → ¬ Rose (I.faults input.old) (I.faults input.new) → ¬ Rose (O.faults out.old) (O.faults out.new)
+        → (result.status ≡ 0) ⊎ (result.status ≡ 5)) }
+    ensures check_not_refused { OfCheck (command_of (map string_bytes words.now)) ((left : List ℕ) → I.left input.old ≡ Some left
+        → (result.status ≡ 0) ⊎ (result.status ≡ 4) → IsLawfulReport (bytes_read report_limit left)) }
+    ensures check_refused { OfCheck (command_of (map string_bytes words.now)) ((left : List ℕ) → I.left input.old ≡ Some left
+        → ¬ IsLawfulReport (bytes_read report_limit left) → ¬ Rose (I.faults input.old) (I.faults input.new)
+        → (result.status ≡ 6) ⊎ (result.status ≡ 5)) }
 {
     drop(clocks);
     obey(alloc, command_of(alloc, words), input, out)
@@ -97,6 +117,10 @@ fn obey<I: Source, O: Sink>(
         }
         Ok(Some(Command::Walk)) => {
             let ended = carry_out(alloc, &WalkWork, input, out);
+            Finish::of(None, ended.fault)
+        }
+        Ok(Some(Command::Check)) => {
+            let ended = carry_out(alloc, &CheckWork, input, out);
             Finish::of(None, ended.fault)
         }
         Ok(None) => Finish::failed(Fault::Usage),

@@ -10,7 +10,7 @@ use std::test::Fail;
 pub(crate) const FIRST: &str =
     "{\"version\":1,\"images\":[{\"name\":\"m\",\"block\":16,\"blocks\":4}],\"clients\":[{\"name\":\"a\",\"depth\":4,\"ops\":[[\"get\",\"m\"],[\"write\",\"m\",0,1,\"ab\"],[\"read\",\"m\",0,1],[\"put\",\"m\"]]}],\"pool\":{\"small\":4,\"large\":1}}";
 
-const REPORT: &str =
+pub(crate) const REPORT: &str =
     "lightrun report 1\nscheduler static\nreactors 1\nperiod 1000000\npool 4 1\nimages 1\nimage m 16 4\nclients 1\nclient a 4 4\nop get 0\nop write 0 0 1 ab\nop read 0 0 1\nop put 0\nthread 0 app 0\nran 1 0 done\ndid 1 0 began 1\ncalled 1 0\nthread 1 client 0\nran 2 0 reply 1\nran 2 1 reply 2\nran 1 0 putself 0\ndid 0 0 given 0\ndid 0 1 sent\ndid 0 2 sent\ndid 2 3 deferred\ndid 2 4 closed\nreply 1 ok\nreply 2 bytes abababababababababababababababab\nthread 2 owner 0\nran 1 0 request 1\nran 1 1 request 2\nran 0 0 stop\ndevice 0 1 0 1\nhome 4 1\nend\n";
 
 // A pattern of three bytes over two blocks, in digits of both cases, read from its second block on, at depth 1.
@@ -179,7 +179,11 @@ fn other_words_are_usage(rt: HostRuntime) -> Result<(), Fail> {
         "walk walk",
         "walk --period 5",
         "Walk",
-        "check",
+        "check 1",
+        "check check",
+        "check --period 5",
+        "check --",
+        "Check",
         "load 7 7",
         "help",
         "--help",

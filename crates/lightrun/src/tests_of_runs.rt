@@ -44,7 +44,7 @@ fn reports_are_whole(rt: HostRuntime) -> Result<(), Fail> {
 }
 
 // The run of a get, some ops so many times, and some last ones, at a depth.
-fn run_many(
+pub(crate) fn run_many(
     alloc: Global,
     depth: &str,
     ops: &str,

@@ -20,6 +20,8 @@ pub enum Command {
     Run(Options),
     /// Reads a walk and writes its answer.
     Walk,
+    /// Reads a report and says whether it is lawful.
+    Check,
 }
 
 /// The command that the words are. None of the command table gives none.
@@ -31,6 +33,8 @@ pub fn command_of(alloc: Global, words: &[String]) -> Result<Option<Command>, No
         run_by(alloc, words)
     } else if words.len() == 1 && words[0].as_str() == "walk" {
         Ok(Some(Command::Walk))
+    } else if words.len() == 1 && words[0].as_str() == "check" {
+        Ok(Some(Command::Check))
     } else {
         Ok(None)
     }
