@@ -1,0 +1,3 @@
+//! Tests through public calls, one module a subject. A crate with tests is proved twice, so the crates below keep none
+//! but those that need their private parts.
+#![tactic(auto)]
