@@ -2,7 +2,7 @@
 use Rattle.std.proofs.Common.{◌≡◌, ◌≢◌, ◌⊎◌, inl, inr, ℕ, List, Option, Some, None, arith, refl, sym, ◌∙◌, subst}
 use Rattle.std.specs.Global.{Vec}
 use Rattle.lw_base.specs.Outside.{Rose}
-use Rattle.lw_base.specs.Walk.{walk_bad_line}
+use Rattle.lw_walk.specs.Walk.{walk_bad_line}
 use Rattle.lw_model.specs.declared.record.Record.{Record}
 use Rattle.lw_model.specs.declared.refusal.ScriptRefusal.{ScriptRefusal}
 use Rattle.lw_model.specs.Served.{run_refusal}

@@ -12,7 +12,7 @@ use Rattle.lightrun.specs.declared.words.Command.{Command}
 use Rattle.lightrun.specs.declared.words.Command.TheVariants as named
 use Rattle.lightrun.specs.Bytes.{HasTakenPart}
 use Rattle.lightrun.specs.Runs.{IsRefused, run_work}
-use Rattle.lw_base.specs.Walk.{walk_bad_line}
+use Rattle.lw_walk.specs.Walk.{walk_bad_line}
 use Rattle.lw_judge.specs.Reports.{report_limit, IsLawfulReport, IsUnlawfulReport}
 use Rattle.lightrun.specs.Walks.{IsAnswer, walk_work}
 use Rattle.lightrun.specs.Checks.{check_work, lawful_text}

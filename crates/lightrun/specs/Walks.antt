@@ -1,7 +1,7 @@
 -- What the command `walk` says of the bytes that it reads and of what it writes.
 use Rattle.std.specs.Prelude.{◌≡◌, ℕ, List, Some, None}
 use Rattle.std.specs.Global.{Vec}
-use Rattle.lw_base.specs.Walk.{walk_bad_line, walk_answer}
+use Rattle.lw_walk.specs.Walk.{walk_bad_line, walk_answer}
 use Rattle.lightrun.specs.declared.fault.Fault.{Fault}
 use Rattle.lightrun.specs.declared.fault.Fault.TheVariants.{Walk}
 use Rattle.lightrun.specs.Works.{WorkOf}

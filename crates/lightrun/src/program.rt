@@ -6,7 +6,7 @@ ghost use Rattle.lightrun.specs.Words.{command_of};
 ghost use Rattle.lightrun.specs.Served.{Serves};
 ghost use Rattle.lightrun.specs.Runs.{run_work};
 ghost use Rattle.lightrun.specs.Works.{bytes_read};
-ghost use Rattle.lw_base.specs.Walk.{walk_bad_line};
+ghost use Rattle.lw_walk.specs.Walk.{walk_bad_line};
 ghost use Rattle.lw_judge.specs.Reports.{report_limit, IsLawfulReport};
 ghost use Rattle.lightrun.specs.declared.words.Command.TheVariants as named;
 ghost use Rattle.lightrun.specs.Program.{Ends, OfRun, OfWalk, OfCheck, IsDone, IsCutShort, IsRefusal, IsReadFault, IsWalkDone, IsWalkRefusal, IsWalkCutShort, IsCheckDone, IsCheckCutShort, IsUnlawful};

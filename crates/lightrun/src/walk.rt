@@ -5,7 +5,8 @@ ghost use Rattle.lightrun.specs.Walks.{walk_work};
 
 use crate::fault::Fault;
 use crate::work::Work;
-use lw_base::{NoMemory, Walked, walk_text};
+use lw_base::NoMemory;
+use lw_walk::{Walked, walk_text};
 use std::alloc::Global;
 
 /// How many bytes a walk may have.

@@ -1,12 +1,3 @@
 pub mod Outside
 pub mod Memory
 pub mod Letters
-pub mod Sums
-pub mod Tally
-pub mod Register
-pub mod Keys
-pub mod World
-pub mod WorldParts
-pub mod WalkLines
-pub mod WalkForm
-pub mod Walk

@@ -1,0 +1,4 @@
+pub mod WalkPieces
+pub mod WalkNumerals
+pub mod Walks
+mod WalkExamples

@@ -1,0 +1,5 @@
+use Rattle.lw_walk.proofs.WalkPieces.{none_left}
+use Rattle.lw_walk.proofs.walk.lines.Lines.is_empty.Goals as goal
+
+pub returns : goal.returns
+returns c = rw (← c.self.view_is) (none_left c.self.inside.rest.now)

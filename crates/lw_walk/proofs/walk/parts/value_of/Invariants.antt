@@ -1,0 +1,6 @@
+use Rattle.std.proofs.Common.{◌≡◌, take, min}
+use Rattle.lw_walk.specs.WalkLines.{value_from}
+use Rattle.lw_walk.proofs.walk.parts.value_of.Given as goal
+
+abbrev pub invariant-loop-byte : goal.invariant-loop-byte
+invariant-loop-byte l = l.value ≡ min (value_from 0 (take l.byte-index l.digits)) 18446744073709551615

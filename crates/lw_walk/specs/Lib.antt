@@ -1,0 +1,3 @@
+pub mod WalkLines
+pub mod WalkForm
+pub mod Walk

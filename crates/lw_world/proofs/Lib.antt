@@ -1,0 +1,6 @@
+pub mod Sums
+pub mod Tallies
+pub mod Registers
+pub mod Worlds
+pub mod Kept
+pub mod FirstWorld

@@ -1,0 +1,6 @@
+pub mod Sums
+pub mod Tally
+pub mod Register
+pub mod Keys
+pub mod World
+pub mod WorldParts
