@@ -1,5 +1,6 @@
 mod Pieces
 mod Readings
+pub mod Totals
 pub mod Sums
 pub mod Tallies
 pub mod Registers

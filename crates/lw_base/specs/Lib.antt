@@ -1,6 +1,7 @@
 pub mod Outside
 pub mod Memory
 pub mod Letters
+pub mod Totals
 pub mod Sums
 pub mod Tally
 pub mod Register
