@@ -1,2 +1,3 @@
 mod Pieces
 mod Readings
+pub mod Totals

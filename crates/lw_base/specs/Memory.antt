@@ -1,7 +1,11 @@
 -- The outside in memory: what a call answers.
-use Rattle.std.specs.Prelude.{ℕ, zero, suc, ◌-◌, ◌==◌, Bool, ◌&&◌, ◌||◌, nat_lt, List, [], ◌∷◌, ◌++◌, length, min, slice_index, if◌then◌else◌, Option, Some, None, Result, Ok, Err}
+use Rattle.std.specs.Prelude.{ℕ, zero, suc, ◌+◌, ◌-◌, ◌==◌, Bool, ◌&&◌, ◌||◌, nat_lt, List, [], ◌∷◌, ◌++◌, length, min, slice_index, if◌then◌else◌, Option, Some, None, Result, Ok, Err}
 use Rattle.std.specs.List.{list_any}
 use Rattle.lw_base.specs.declared.names.Failed.{Failed}
+
+-- a count that rose by one, or stands still at the greatest u64
+abbrev pub counted : ℕ → ℕ
+counted count = min (count + 1) 18446744073709551615
 
 -- the call of this number fails, where these calls are to fail
 abbrev pub fails_at : List ℕ → ℕ → Bool

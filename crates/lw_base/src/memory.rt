@@ -1,7 +1,7 @@
 //! The outside in memory: for tests, and for callers that have the whole text.
-ghost use Rattle.std.specs.Prelude.{◌≡◌, ◌+◌, ◌-◌, ◌<◌, ◌≤◌, [], ◌∷◌, ◌++◌, length, take, drop, min, Ok, Err, Some, IfOk, OnErr, IfSome, IsErr, Contains, vec_len, vec_capacity};
+ghost use Rattle.std.specs.Prelude.{◌≡◌, ◌+◌, ◌-◌, ◌<◌, ◌≤◌, [], ◌∷◌, ◌++◌, length, take, drop, min, Ok, Err, Some, IfOk, OnOk, OnErr, IfSome, IsErr, Contains, vec_len, vec_capacity};
 ghost use Rattle.lw_base.specs.Outside.{Rose, Continues, HasGiven, HasTaken};
-ghost use Rattle.lw_base.specs.Memory.{fails_at, reading_at, unless_it_fails, unless_nothing};
+ghost use Rattle.lw_base.specs.Memory.{counted, fails_at, list_readings, reading_at, unless_it_fails, unless_nothing};
 
 use crate::names::{Failed, Tick};
 use crate::outside::{Clock, Gate, Sink, Source};
@@ -59,10 +59,15 @@ impl Source for MemSource {
         ensures next { IfOk result (λ n. HasGiven (Some (drop self.old.read self.old.bytes.items)) (take n into.new)
             (Some (drop self.new.read self.new.bytes.items))) }
         ensures end { IfOk result (λ n. n ≡ 0 → drop self.old.read self.old.bytes.items ≡ []) }
+        ensures sound { OnOk result (self.new.faults ≡ self.old.faults) }
         ensures steady { self.old.faults ≤ self.new.faults }
         ensures failed { OnErr result (Rose self.old.faults self.new.faults
             × (drop self.new.read self.new.bytes.items ≡ drop self.old.read self.old.bytes.items)) }
-        ensures counted { self.new.calls ≡ min (self.old.calls + 1) 18446744073709551615 }
+        ensures moved { IfOk result (λ n. self.new.read ≡ self.old.read + n) }
+        ensures unmoved { OnErr result ((self.new.read ≡ self.old.read) × (into.new ≡ into.old)) }
+        ensures fault { OnErr result (self.new.faults ≡ counted self.old.faults) }
+        ensures call { self.new.calls ≡ counted self.old.calls }
+        ensures kept { (self.new.bytes ≡ self.old.bytes) × (self.new.piece ≡ self.old.piece) × (self.new.fails ≡ self.old.fails) }
     {
         if fails_now(&mut self.calls, &self.fails) {
             self.faults = self.faults.saturating_add(1);
@@ -87,7 +92,7 @@ fn copy_front(text: &[u8], into: &mut [u8], most: usize) -> usize
 // Whether the call that begins now fails. It counts the call.
 fn fails_now(calls: &mut u64, fails: &[u64]) -> bool
     ensures fails { result ≡ fails_at fails.now calls.old }
-    ensures counted { calls.new ≡ min (calls.old + 1) 18446744073709551615 }
+    ensures counted { calls.new ≡ counted calls.old }
 {
     let call = *calls;
     if call == u64::MAX {
@@ -143,9 +148,13 @@ impl Sink for MemSink {
             (min (min (vec_capacity self.old.bytes - vec_len self.old.bytes) self.old.piece) (length piece.now)) }
         ensures count { IfOk result (λ n. (1 ≤ n) × (n ≤ length piece.now)) }
         ensures appended { IfOk result (λ n. HasTaken (Some self.old.bytes.items) (take n piece.now) (Some self.new.bytes.items)) }
+        ensures sound { OnOk result (self.new.faults ≡ self.old.faults) }
         ensures steady { self.old.faults ≤ self.new.faults }
         ensures failed { OnErr result (Rose self.old.faults self.new.faults × (self.new.bytes.items ≡ self.old.bytes.items)) }
-        ensures counted { self.new.calls ≡ min (self.old.calls + 1) 18446744073709551615 }
+        ensures unmoved { OnErr result (self.new.bytes ≡ self.old.bytes) }
+        ensures fault { OnErr result (self.new.faults ≡ counted self.old.faults) }
+        ensures call { self.new.calls ≡ counted self.old.calls }
+        ensures kept { (self.new.piece ≡ self.old.piece) × (self.new.fails ≡ self.old.fails) }
     {
         let fails = fails_now(&mut self.calls, &self.fails);
         let room = self.bytes.capacity() - self.bytes.len();
@@ -191,7 +200,13 @@ impl Clock for ListClock {
 
     ghost readings = { λ c. list_readings c.list.items c.calls };
 
-    fn now(&mut self) -> Tick {
+    fn now(&mut self) -> Tick
+        ensures continues { Continues (list_readings self.old.list.items self.old.calls) result
+            (list_readings self.new.list.items self.new.calls) }
+        ensures reading { result ≡ reading_at self.old.list.items self.old.calls }
+        ensures call { self.new.calls ≡ counted self.old.calls }
+        ensures kept { self.new.list ≡ self.old.list }
+    {
         let call = self.calls;
         self.calls = call.saturating_add(1);
         reading(self.list.as_slice(), call)

@@ -1,5 +1,5 @@
 //! The outside of a run: where bytes come from and go to, clocks, and a gate that a test can hold.
-ghost use Rattle.std.specs.Prelude.{◌≡◌, ◌<◌, ◌≤◌, [], ◌∷◌, length, take, IfOk, OnErr, IfSome};
+ghost use Rattle.std.specs.Prelude.{◌≡◌, ◌<◌, ◌≤◌, [], ◌∷◌, length, take, IfOk, OnOk, OnErr, IfSome};
 ghost use Rattle.lw_base.specs.Outside.{Rose, Continues, HasGiven, HasTaken};
 
 use crate::names::{Failed, Tick};
@@ -16,12 +16,13 @@ pub trait Source {
 
     /// Reads the next bytes into the front of `into`, and answers how many: 0 exactly at the end.
     ///
-    /// A call that failed has read nothing.
+    /// A call that failed has read nothing, and only such a call is counted as a fault.
     fn read(&mut self, into: &mut [u8]) -> Result<usize, Failed>
         requires { 0 < length into.old }
         ensures count { IfOk result (λ n. n ≤ length into.new) }
         ensures next { IfOk result (λ n. HasGiven (left self.old) (take n into.new) (left self.new)) }
         ensures end { IfOk result (λ n. n ≡ 0 → IfSome (left self.old) (λ rest. rest ≡ [])) }
+        ensures sound { OnOk result (faults self.new ≡ faults self.old) }
         ensures steady { faults self.old ≤ faults self.new }
         ensures failed { OnErr result (Rose (faults self.old) (faults self.new) × (left self.new ≡ left self.old)) };
 }
@@ -38,11 +39,12 @@ pub trait Sink {
 
     /// Appends the first bytes of `piece`, and answers how many: at least 1.
     ///
-    /// A call that failed has appended nothing.
+    /// A call that failed has appended nothing, and only such a call is counted as a fault.
     fn write(&mut self, piece: &[u8]) -> Result<usize, Failed>
         requires { 0 < length piece.now }
         ensures count { IfOk result (λ n. (1 ≤ n) × (n ≤ length piece.now)) }
         ensures appended { IfOk result (λ n. HasTaken (holds self.old) (take n piece.now) (holds self.new)) }
+        ensures sound { OnOk result (faults self.new ≡ faults self.old) }
         ensures steady { faults self.old ≤ faults self.new }
         ensures failed { OnErr result (Rose (faults self.old) (faults self.new) × (holds self.new ≡ holds self.old)) };
 }

@@ -36,4 +36,10 @@ pub trait Tagged {
         ensures fits { (to : ℕ) (family : Self.Family) → fits to family self.old → fits to family self.new };
 
     ghost marked_tag: { (x : Self.Letter) (s n : ℕ) → tag_of (marked x s n) ≡ record { sender = s; number = n; what = (tag_of x).what } };
+
+    // Marking changes nothing but the tag: the last marking tells all, and marking with its own sender and number
+    // changes nothing.
+    ghost marked_last: { (x : Self.Letter) (s n t k : ℕ) → marked (marked x s n) t k ≡ marked x t k };
+
+    ghost marked_same: { (x : Self.Letter) → marked x (tag_of x).sender (tag_of x).number ≡ x };
 }

@@ -9,10 +9,10 @@ use prog.Atomic.{either}
 use Rattle.atomic_table.specs.Table.{State, Me, keeps, step, stepped, opening, Allows, Splits, Joins}
 use Rattle.atomic_table.proofs.Lists.{at_set, at_snoc}
 use Rattle.lw_latch.specs.declared.ring_view.RingView.{RingView}
-use Rattle.lw_latch.specs.Totals.{total}
+use Rattle.lw_base.specs.Totals.{total}
 use Rattle.lw_latch.specs.RingWord.{parts, inside, finished, closed, count, receives, word_of, Fits, Latched, first_view, spent_view, sender_view, less_one_part, joined, closed_bit, Enters, Leaves, Finishes, TriesToClose, Learns}
 use Rattle.lw_latch.specs.RingEnds.{IsSender, IsReceiver}
-use Rattle.lw_latch.proofs.Totals.{total_set, total_snoc, total_le, total_scaled, at_le, total_zero, total_only, others_none}
+use Rattle.lw_base.proofs.Totals.{total_set, total_snoc, total_le, total_scaled, at_le, total_zero, total_only, others_none}
 
 abbrev St : Type 0
 St = State (Unit {0}) RingView

@@ -9,9 +9,9 @@ use Rattle.atomic_table.proofs.Lists.{at_set, at_snoc}
 use Rattle.lw_place.specs.declared.table.Stand.{Stand}
 use Rattle.lw_place.specs.declared.table.Homes.{Homes}
 use Rattle.lw_place.specs.declared.table.PlaceView.{PlaceView}
-use Rattle.lw_place.specs.Totals.{total}
+use Rattle.lw_base.specs.Totals.{total}
 use Rattle.lw_place.specs.PlaceTable.{desks, retired, halted, seats, seats_of, times, IsStanding, Fits, Placed, first_thread, less_first_thread, one_desk, less_one_desk, joined, spent_view, firsts, others}
-use Rattle.lw_place.proofs.Totals.{total_set, total_snoc}
+use Rattle.lw_base.proofs.Totals.{total_set, total_snoc}
 use Rattle.lw_place.proofs.Standing.{times_append, times_first, length_first}
 use Rattle.lw_place.proofs.Rule.{St}
 

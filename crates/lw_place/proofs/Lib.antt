@@ -1,4 +1,3 @@
-mod Totals
 mod Words
 mod Standing
 mod Rule

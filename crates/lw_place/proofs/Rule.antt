@@ -7,9 +7,9 @@ use Rattle.atomic_table.specs.Table.{State}
 use Rattle.atomic_table.proofs.Lists.{at_set}
 use Rattle.lw_place.specs.declared.table.Homes.{Homes}
 use Rattle.lw_place.specs.declared.table.PlaceView.{PlaceView}
-use Rattle.lw_place.specs.Totals.{total}
+use Rattle.lw_base.specs.Totals.{total}
 use Rattle.lw_place.specs.PlaceTable.{desks, retired, halted, seats, seats_of, times, IsStanding, Fits, Placed}
-use Rattle.lw_place.proofs.Totals.{total_set}
+use Rattle.lw_base.proofs.Totals.{total_set}
 
 abbrev pub St : Type 0
 St = State (Unit {0}) PlaceView

@@ -8,10 +8,10 @@ use Rattle.lw_place.specs.declared.place.Place.{Place}
 use Rattle.lw_place.specs.declared.table.Stand.{Stand}
 use Rattle.lw_place.specs.declared.table.Homes.{Homes}
 use Rattle.lw_place.specs.declared.table.PlaceView.{PlaceView}
-use Rattle.lw_place.specs.Totals.{total}
+use Rattle.lw_base.specs.Totals.{total}
 use Rattle.lw_place.specs.PlaceWord.{word_of, place_of, IsBelow, IsWord}
 use Rattle.lw_place.specs.PlaceTable.{desks, retired, halted, seats, seats_of, times, moved_to, IsStanding, Placed, Moves, Retires, Halts, LooksAtDone, LooksAtHalt, Looks, LearnsDone, LearnsHalt, Learns}
-use Rattle.lw_place.proofs.Totals.{total_set, at_le, others_none, total_only, some_view}
+use Rattle.lw_base.proofs.Totals.{total_set, at_le, others_none, total_only, some_view}
 use Rattle.lw_place.proofs.Words.{place_in_word, is_word}
 use Rattle.lw_place.proofs.Standing.{times_moved, length_moved, times_here, kept_apart, kept_low, some_stand}
 use Rattle.lw_place.proofs.Rule.{St, Follows, Makes, changed, read}

@@ -1,4 +1,3 @@
-pub mod Totals
 pub mod PlaceWord
 pub mod PlaceTable
 pub mod PlaceSeats

@@ -5,7 +5,7 @@ use Rattle.lw_place.specs.declared.place.Place.TheVariants as place
 use Rattle.lw_place.specs.declared.place.Place.{Place}
 use Rattle.lw_place.specs.declared.table.Stand.{Stand}
 use Rattle.lw_place.specs.declared.table.PlaceView.{PlaceView}
-use Rattle.lw_place.specs.Totals.{total}
+use Rattle.lw_base.specs.Totals.{total}
 use Rattle.lw_place.specs.PlaceTable.{new_view}
 
 -- which places: their table, and how many threads and reactors they are for

@@ -9,7 +9,7 @@ use Rattle.lw_place.specs.declared.place.Place.{Place}
 use Rattle.lw_place.specs.declared.table.Stand.{Stand}
 use Rattle.lw_place.specs.declared.table.Homes.{Homes}
 use Rattle.lw_place.specs.declared.table.PlaceView.{PlaceView}
-use Rattle.lw_place.specs.Totals.{total}
+use Rattle.lw_base.specs.Totals.{total}
 use Rattle.lw_place.specs.PlaceWord.{word_of, place_of, IsBelow, IsWord}
 
 abbrev pub desks : PlaceView → ℕ

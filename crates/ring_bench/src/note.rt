@@ -43,6 +43,10 @@ impl Tagged for Note {
 
     ghost marked_tag = { λ n s k. refl };
 
+    ghost marked_last = { λ n s k t j. refl };
+
+    ghost marked_same = { λ n. refl };
+
     fn tag(&self) -> Tag {
         self.tag
     }

@@ -1,8 +1,10 @@
--- Sums over the views.
+-- Sums over a list: of one that changes, and of one element alone.
 use Rattle.std.proofs.Common.{◌≡◌, ℕ, zero, suc, ◌+◌, ◌*◌, ◌≤◌, ◌≢◌, List, [], ◌∷◌, ◌++◌, set, refl, sym, ap, arith}
+use mathlib.Core.Logic.{dite}
+use native.Mathlib.Decide.{ℕ_discrete}
 use mathlib.Core.Option.{some, some-injective, some-ne-none}
 use lib.ListN.{get_elem?}
-use Rattle.lw_latch.specs.Totals.{total}
+use Rattle.lw_base.specs.Totals.{total}
 
 module _ {V : Type 0} where
   pub total_set : (f : V → ℕ) (l : List V) (i : ℕ) (v w : V) → get_elem? l i ≡ some v → total f (set l i w) + f v ≡ total f l + f w
@@ -31,7 +33,7 @@ module _ {V : Type 0} where
   total_zero f [] h = refl
   total_zero f (x ∷ xs) h = let one = h 0 x refl in let r = total_zero f xs (λ i v e. h (suc i) v e) in omega arith
 
-  -- where one view has all of g, no other has any
+  -- where one has all of g, no other has any
   pub others_none : (g : V → ℕ) (l : List V) (i : ℕ) (v : V) → get_elem? l i ≡ some v → total g l ≡ g v → (j : ℕ) (u : V) → j ≢ i → get_elem? l j ≡ some u → g u ≡ 0
   others_none g [] i v e all j u apart e' = absurd (some-ne-none v (sym e))
   others_none g (x ∷ xs) zero v e all zero u apart e' = absurd (apart refl)
@@ -40,8 +42,15 @@ module _ {V : Type 0} where
   others_none g (x ∷ xs) (suc i) v e all (suc j) u apart e' =
       let r = at_le g xs i v e in others_none g xs i v e (omega arith) j u (λ s. apart (ap suc s)) e'
 
-  -- where no other view has any of f, the total is this view's
+  -- where no other has any of f, the total is this one's
   pub total_only : (f : V → ℕ) (l : List V) (i : ℕ) (v : V) → get_elem? l i ≡ some v → ((j : ℕ) (u : V) → j ≢ i → get_elem? l j ≡ some u → f u ≡ 0) → total f l ≡ f v
   total_only f [] i v e h = absurd (some-ne-none v (sym e))
   total_only f (x ∷ xs) zero v e h = let is : f x ≡ f v = ap f (some-injective x v e) in let r = total_zero f xs (λ j u e'. h (suc j) u (λ s. absurd (omega arith)) e') in omega arith
   total_only f (x ∷ xs) (suc i) v e h = let first = h 0 x (λ s. absurd (omega arith)) refl in let r = total_only f xs i v e (λ j u apart e'. h (suc j) u (λ s. apart (omega arith)) e') in omega arith
+
+  -- where there is some of f, one has some
+  pub some_view : (f : V → ℕ) (l : List V) → 1 ≤ total f l → (i : ℕ) × (v : V) × (get_elem? l i ≡ some v) × (1 ≤ f v)
+  some_view f [] h = absurd (omega arith)
+  some_view f (x ∷ xs) h = dite (ℕ_discrete (f x) 0)
+      (λ none. (let r = some_view f xs (omega arith) in (suc r.0, r.1, r.2, r.3)))
+      (λ some_here. (0, x, refl, omega arith))

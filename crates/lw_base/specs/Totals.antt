@@ -1,7 +1,7 @@
--- Sums over the views of a table.
+-- Sums over a list, as over the views of a table's seats.
 use Rattle.std.specs.Prelude.{ℕ, ◌+◌, List, [], ◌∷◌}
 
--- f of each view, added up
+-- f of each, added up
 abbrev pub total : {V : Type 0} → (V → ℕ) → List V → ℕ
 total f [] = 0
 total f (v ∷ vs) = f v + total f vs
