@@ -1,3 +1,5 @@
 pub mod Totals
 pub mod RingWord
 pub mod RingEnds
+pub mod DeviceWord
+pub mod DeviceEnds
