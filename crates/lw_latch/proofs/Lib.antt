@@ -1,2 +1,6 @@
 mod Totals
 mod RingSteps
+mod ShutBit
+mod DeviceMoves
+mod DeviceSteps
+mod DeviceDealing

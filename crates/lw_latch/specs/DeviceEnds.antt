@@ -1,5 +1,5 @@
 -- What callers see of the seats of a device's latch.
-use Rattle.std.specs.Prelude.{◌≡◌, ◌⊎◌, ℕ, ◌+◌, ◌<◌, ◌≤◌, ◌==◌, if◌then◌else◌, List, [], ◌∷◌, length, slice_index_or, All, Any}
+use Rattle.std.specs.Prelude.{◌≡◌, ◌⊎◌, ℕ, ◌+◌, ◌<◌, ◌≤◌, ◌==◌, if◌then◌else◌, List, length, slice_index_or, All, Any}
 use Rattle.atomic_table.specs.Seated.{TableId}
 use Rattle.lw_latch.specs.declared.device_view.DeviceView.{DeviceView}
 use Rattle.lw_latch.specs.Totals.{total}

@@ -214,4 +214,4 @@ pub record IsWhole (v : DeviceView) : Type 0 where
 abbrev pub LearnsAll : Step (Unit {0}) → Sat → ℕ → Sat → Type 0
 LearnsAll step old word new =
     (new ≡ old)
-    × (1 ≤ old.0.seats → old.0.seats ≡ old.0.all → (word ≡ device_word (old.0 ∷ [])) × IsWhole old.0)
+    × (1 ≤ old.0.seats → old.0.seats ≡ old.0.all → (word ≡ device_word (old.0 ∷ [])) × (opened old.0 < 65536) × IsWhole old.0)
