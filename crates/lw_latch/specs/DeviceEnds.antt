@@ -39,11 +39,6 @@ pub record MayBeTakenIn (e : SeatEnd) : Type 0 where
   pub no_visit : e.view.visit ≡ 0
   pub has_fired : e.view.begun ≡ 1 → e.view.fired ≡ 1
 
--- these seats of one latch, with those that they took in, are all
-pub record AreAllOf (latch : DeviceLatch) (es : List SeatEnd) : Type 0 where
-  pub of_latch : All (λ e. e.latch ≡ latch) es
-  pub all_seats : total (λ e. e.view.seats) es ≡ latch.seats
-
 -- the device is known to have fired: by a seat that fired; or since one found it shut or began, and each that began fired
 abbrev pub HaveFired : List SeatEnd → Type 0
 HaveFired es =
@@ -56,7 +51,7 @@ pub record Settles (es : List SeatEnd) (given began_by callbacks : ℕ) : Type 0
   pub once : (k : ℕ) → k < given → total (λ e. times k e.view.ordinals) es ≡ 1
   pub none_else : (k : ℕ) → given ≤ k → total (λ e. times k e.view.ordinals) es ≡ 0
   pub count : total (λ e. length e.view.ordinals) es ≡ given
-  pub began : Any (λ e. (e.view.begun ≡ 1) × (e.view.fired ≡ 1) × (e.view.count ≡ given) × (e.began_by ≡ began_by)) es
+  pub began : Any (λ e. (e.view.begun ≡ 1) × (e.view.count ≡ given) × (e.began_by ≡ began_by)) es
   pub alone : total (λ e. e.view.begun) es ≡ 1
   pub fired : total (λ e. e.view.fired) es ≡ callbacks
   pub one_callback : callbacks ≡ 1
