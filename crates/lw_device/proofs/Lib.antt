@@ -1,0 +1,4 @@
+mod Pairing
+mod Joining
+mod Settled
+mod AllRows
