@@ -1,11 +1,11 @@
 -- What a seat knows that has taken in others.
-use Rattle.std.proofs.Common.{◌≡◌, ◌≢◌, ℕ, zero, suc, ◌+◌, ◌<◌, ◌≤◌, if◌then◌else◌, List, [], ◌∷◌, length, map, get_or, refl, sym, ap, subst, ◌∙◌, arith, All, eq-eqb, ne_eqb}
+use Rattle.std.proofs.Common.{◌≡◌, ℕ, zero, suc, ◌+◌, ◌<◌, if◌then◌else◌, List, [], ◌∷◌, length, map, get_or, refl, sym, ap, subst, ◌∙◌, arith, All, eq-eqb, ne_eqb}
 use Rattle.std.proofs.lemmas.List.Elements.{All-head, All-tail}
 use mathlib.Core.Logic.{dite}
 use native.Mathlib.Decide.{ℕ_discrete}
 use Rattle.lw_latch.specs.Totals.{total}
 use Rattle.lw_latch.specs.DeviceEnds.{DeviceLatch, SeatEnd, both_ends}
-use Rattle.lw_device.specs.Rows.{Row, latches, seat_of, no_seat, both_seats, both_rows, gathered_into, seats_of}
+use Rattle.lw_device.specs.Rows.{Row, seat_of, no_seat, both_seats, both_rows, gathered_into, seats_of}
 
 -- a seat that has taken in these, one after the other
 abbrev pub joined : SeatEnd → List SeatEnd → SeatEnd

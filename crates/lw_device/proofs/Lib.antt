@@ -2,3 +2,4 @@ mod Pairing
 mod Joining
 mod Settled
 mod AllRows
+mod NewRows

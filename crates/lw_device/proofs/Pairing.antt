@@ -1,5 +1,5 @@
 -- Two rows are joined seat by seat.
-use Rattle.std.proofs.Common.{◌≡◌, ℕ, zero, suc, ◌+◌, ◌<◌, ◌≤◌, List, [], ◌∷◌, length, map, drop, set, get_or, refl, sym, ap, ◌∙◌, arith}
+use Rattle.std.proofs.Common.{◌≡◌, ℕ, zero, suc, ◌<◌, List, [], ◌∷◌, length, map, drop, set, get_or, refl, sym, ap, arith}
 use Rattle.lw_latch.specs.DeviceEnds.{DeviceLatch, SeatEnd, both_ends}
 use Rattle.lw_device.specs.Rows.{both_seats}
 

@@ -1,12 +1,10 @@
 -- What is known of a device once all rows are in one hand.
-use Rattle.std.proofs.Common.{◌≡◌, ◌⊎◌, ℕ, zero, suc, ◌+◌, ◌<◌, ◌≤◌, List, [], ◌∷◌, ◌++◌, length, map, get_or, refl, sym, ap, subst, ◌∙◌, ⊎_elim, arith, All, Any, length-append}
-use Rattle.std.specs.Prelude.{slice_index_or}
-use Rattle.std.proofs.lemmas.List.Elements.{All-head, All-tail, All-weaker}
+use Rattle.std.proofs.Common.{◌≡◌, ℕ, zero, suc, ◌+◌, ◌<◌, ◌≤◌, List, [], ◌∷◌, ◌++◌, length, get_or, refl, sym, ap, subst, ◌∙◌, ⊎_elim, arith, All, Any, length-append}
 use mathlib.Core.Logic.{dite}
 use native.Mathlib.Decide.{ℕ_discrete}
 use Rattle.lw_latch.specs.Totals.{total}
 use Rattle.lw_latch.specs.DeviceWord.{held, times, IsWhole}
-use Rattle.lw_latch.specs.DeviceEnds.{SeatEnd, both_ends, HaveFired, Settles}
+use Rattle.lw_latch.specs.DeviceEnds.{SeatEnd, HaveFired, Settles}
 use Rattle.lw_device.specs.declared.settling.DeviceEnd.{DeviceEnd}
 use Rattle.lw_device.specs.Rows.{IsEndOf}
 use Rattle.lw_device.proofs.Joining.{joined, joined_sum, joined_began, begun_of}

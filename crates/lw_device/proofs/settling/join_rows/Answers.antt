@@ -1,4 +1,4 @@
-use Rattle.std.proofs.Common.{rules, ◌≡◌, List, ◌∷◌, refl, ap, sym, ◌∙◌, All}
+use Rattle.std.proofs.Common.{rules, ◌≡◌, List, ◌∷◌, refl, ap, sym, ◌∙◌}
 use Rattle.std.proofs.lemmas.List.Elements.{All-head, All-tail, All-rest, All-same}
 use Rattle.std.specs.Vec.Iter.{into_iter_items}
 use Rattle.lw_device.specs.Rows.{Row, latches, gathered_into}

@@ -1,7 +1,7 @@
-use Rattle.std.proofs.Common.{rules, ◌≡◌, ℕ, suc, ◌+◌, List, [], ◌∷◌, slice_index_or, slice_set, ap, sym, subst, ◌∙◌, arith}
+use Rattle.std.proofs.Common.{rules, ◌≡◌, ℕ, suc, ◌+◌, List, [], slice_index_or, slice_set, ap, sym, subst, ◌∙◌, arith}
 use Rattle.std.specs.Vec.Iter.{into_iter_items}
 use Rattle.lw_latch.specs.DeviceEnds.{SeatEnd, both_ends}
-use Rattle.lw_device.specs.Rows.{Row, both_rows, both_seats}
+use Rattle.lw_device.specs.Rows.{both_rows, both_seats}
 use Rattle.lw_device.proofs.Pairing.{both_from, both_step, both_end, Matches, match_here, match_next, nothing_left}
 use Rattle.lw_device.proofs.row.DeviceRow.gather.Goals as goal
 
