@@ -1,1 +1,5 @@
 mod RingSteps
+mod ShutBit
+mod DeviceMoves
+mod DeviceSteps
+mod DeviceDealing

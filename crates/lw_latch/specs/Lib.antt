@@ -1,2 +1,4 @@
 pub mod RingWord
 pub mod RingEnds
+pub mod DeviceWord
+pub mod DeviceEnds

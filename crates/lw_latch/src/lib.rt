@@ -3,12 +3,21 @@
 //! A ring's latch counts the senders that are inside a send and the messages that were finished. It closes only in a
 //! step that finds nobody inside and every finished message taken. From then on no sender gets in, so nothing that
 //! was accepted is left behind.
+//!
+//! A device's latch counts the channels and visits that are open and the channels that were given. Once it is shut none is
+//! given, and it fires only in a step that finds nothing open.
 #![tactic(auto)]
 
+mod device;
+mod device_view;
 mod ring;
 mod ring_view;
 #[cfg(test)]
 mod tests;
 
+pub use device::{
+    DeviceSeat, DeviceTotals, Firing, Give, Hold, Look, Shutting, device_latch,
+};
+pub use device_view::{DeviceRule, DeviceTable, DeviceView};
 pub use ring::{Closing, Enter, LatchRecv, LatchSend, ring_latch};
 pub use ring_view::{RingRule, RingTable, RingView};

@@ -1,0 +1,5 @@
+mod Pairing
+mod Joining
+mod Settled
+mod AllRows
+mod NewRows

@@ -1,0 +1,233 @@
+-- Seats of a device's latch are split off and joined, and what a seat knows that stands for all.
+use Rattle.std.proofs.Common.{◌≡◌, ◌≢◌, ℕ, ◌+◌, ◌/◌, ◌%◌, ◌<◌, ◌≤◌, true, false, true≢false, if◌then◌else◌, eqb, List, [], ◌∷◌, ◌++◌, length, set, refl, sym, ap, ◌∙◌, subst, ⊎_elim, arith, slice_index, eq-eqb, ne_eqb, length-append}
+use mathlib.Core.Option.{none, some}
+use mathlib.Core.Logic.{dite}
+use native.Mathlib.Decide.{ℕ_discrete}
+use lib.ListN.{get_elem?}
+use Rattle.atomic_table.specs.Table.{keeps, step, Allows, Splits, Joins}
+use Rattle.atomic_table.proofs.Lists.{at_set, at_snoc, set_else}
+use Rattle.lw_latch.specs.declared.device_view.DeviceView.{DeviceView}
+use Rattle.lw_latch.specs.Totals.{total}
+use Rattle.lw_latch.specs.DeviceWord.{seats, given, backing, begun, count, fired, held, opened, times, times_given, device_word, Suits, Tied, idle_view, one_seat, less_one_seat, both_views, spent_device, IsWhole, LearnsAll}
+use Rattle.lw_latch.proofs.Totals.{total_set, total_snoc, total_only, others_none, at_le}
+use Rattle.lw_latch.proofs.DeviceMoves.{St, Sat, bounded, reads, moved}
+
+times_append : (k : ℕ) (xs ys : List ℕ) → times k (xs ++ ys) ≡ times k xs + times k ys
+times_append k [] ys = omega arith
+times_append k (x ∷ xs) ys = let r = times_append k xs ys in omega arith
+
+times_none : (k : ℕ) (xs : List ℕ) → length xs ≡ 0 → times k xs ≡ 0
+times_none k [] e = refl
+times_none k (x ∷ xs) e = absurd (omega arith)
+
+pub splits : (all id : ℕ) (v : DeviceView) → 2 ≤ v.seats → v ≡ idle_view v.all v.seats → Splits (Tied all) id v (less_one_seat v) (one_seat v)
+splits all id v some_seats idle s h at =
+    let w : DeviceView = less_one_seat v in
+    let u : DeviceView = one_seat v in
+    let vs : List DeviceView = set s.views id w in
+    let ts = total_set seats s.views id v w at in
+    let tg = total_set given s.views id v w at in
+    let tk = total_set backing s.views id v w at in
+    let tb = total_set begun s.views id v w at in
+    let tc = total_set count s.views id v w at in
+    let tf = total_set fired s.views id v w at in
+    let th = total_set held s.views id v w at in
+    let to = total_set opened s.views id v w at in
+    let ns = total_snoc seats vs u in
+    let ng = total_snoc given vs u in
+    let nk = total_snoc backing vs u in
+    let nb = total_snoc begun vs u in
+    let nc = total_snoc count vs u in
+    let nf = total_snoc fired vs u in
+    let nh = total_snoc held vs u in
+    let no = total_snoc opened vs u in
+    let a = h.all_seats in
+    let once = h.one_begun in
+    let f = h.each id v at in
+    let no_channel = ap (λ (x : DeviceView). x.channel) idle in
+    let no_visit = ap (λ (x : DeviceView). x.visit) idle in
+    let no_backing = ap (λ (x : DeviceView). x.backing) idle in
+    let no_leaving = ap (λ (x : DeviceView). x.leaving) idle in
+    let no_begun = ap (λ (x : DeviceView). x.begun) idle in
+    let none_given = ap given idle in
+    let same : total begun (vs ++ u ∷ []) ≡ total begun s.views = omega arith in
+    let again : (k : ℕ) → total (times_given k) (vs ++ u ∷ []) ≡ total (times_given k) s.views = λ k. (let t = total_set (times_given k) s.views id v w at in let n = total_snoc (times_given k) vs u in omega arith) in
+    record {
+      few = h.few;
+      all_seats = omega arith;
+      word = h.word ∙ ap (λ k. k ∷ []) (omega arith);
+      one_begun = omega arith;
+      settled = λ z. (let o = h.settled (omega arith) in omega arith);
+      quiet = λ z. (let o = h.quiet (omega arith) in omega arith);
+      once = λ k l. again k ∙ h.once k (omega arith);
+      none_else = λ k l. again k ∙ h.none_else k (omega arith);
+      each = λ j y e. subst (λ k. Suits all k y) (sym same) (⊎_elim
+          (λ (here : get_elem? vs j ≡ some y). ⊎_elim
+          (λ (x : (j ≡ id) × (w ≡ y)). subst (λ z. Suits all (total begun s.views) z) x.1
+          (record {
+            of_latch = λ _. f.of_latch (omega arith);
+            one_channel = omega arith;
+            one_visit = omega arith;
+            few_gives = f.few_gives;
+            few_given = λ _. omega arith;
+            none_given = λ z. absurd (omega arith);
+            began = omega arith;
+            counts = f.counts;
+            fired_begun = f.fired_begun;
+            found_shut = f.found_shut;
+            backing_shut = f.backing_shut;
+          }))
+          (λ (x : (j ≢ id) × (get_elem? s.views j ≡ some y)). h.each j y x.1)
+          (at_set s.views id j w y here))
+          (λ (new : u ≡ y). subst (λ z. Suits all (total begun s.views) z) new
+          (record {
+            of_latch = λ _. f.of_latch (omega arith);
+            one_channel = omega arith;
+            one_visit = omega arith;
+            few_gives = omega arith;
+            few_given = λ _. omega arith;
+            none_given = λ z. absurd (omega arith);
+            began = omega arith;
+            counts = λ _. refl;
+            fired_begun = omega arith;
+            found_shut = λ _. refl;
+            backing_shut = λ _. refl;
+          }))
+          (at_snoc vs u y j e));
+    }
+
+-- of two views of which one began at most, the count that both know is the sum
+sum_of_counts : (v u : DeviceView) → v.begun + u.begun ≤ 1 → (v.begun ≡ 0 → v.count ≡ 0) → (u.begun ≡ 0 → u.count ≡ 0) → (both_views v u).count ≡ v.count + u.count
+sum_of_counts v u once cv cu = dite (ℕ_discrete v.begun 0)
+    (λ not_v. ap (λ b. if b then u.count else v.count) (eq-eqb v.begun 0 not_v) ∙ (let z = cv not_v in omega arith))
+    (λ by_v. ap (λ b. if b then u.count else v.count) (ne_eqb v.begun 0 by_v) ∙ (let z = cu (omega arith) in omega arith))
+
+pub joins : (all id : ℕ) (v : DeviceView) (other : ℕ) (u : DeviceView) → 1 ≤ v.seats → 1 ≤ u.seats → Joins (Tied all) id v other u (both_views v u) spent_device
+joins all id v other u some_v some_u s h at apart there =
+    let w : DeviceView = both_views v u in
+    let vs : List DeviceView = set s.views id w in
+    let new : List DeviceView = set vs other spent_device in
+    let was : get_elem? s.views other ≡ some u = ⊎_elim (λ (x : (other ≡ id) × (w ≡ u)). absurd (apart x.0)) (λ (x : (other ≢ id) × (get_elem? s.views other ≡ some u)). x.1) (at_set s.views id other w u there) in
+    let ts = total_set seats s.views id v w at in
+    let tg = total_set given s.views id v w at in
+    let tk = total_set backing s.views id v w at in
+    let tb = total_set begun s.views id v w at in
+    let tc = total_set count s.views id v w at in
+    let tf = total_set fired s.views id v w at in
+    let th = total_set held s.views id v w at in
+    let to = total_set opened s.views id v w at in
+    let ns = total_set seats vs other u spent_device there in
+    let ng = total_set given vs other u spent_device there in
+    let nk = total_set backing vs other u spent_device there in
+    let nb = total_set begun vs other u spent_device there in
+    let nc = total_set count vs other u spent_device there in
+    let nf = total_set fired vs other u spent_device there in
+    let nh = total_set held vs other u spent_device there in
+    let no = total_set opened vs other u spent_device there in
+    let a = h.all_seats in
+    let once = h.one_begun in
+    let f = h.each id v at in
+    let g = h.each other u was in
+    let without = total_set begun s.views id v spent_device at in
+    let left = at_le begun (set s.views id spent_device) other u (set_else s.views id other spent_device apart ∙ was) in
+    let both_once : v.begun + u.begun ≤ 1 = omega arith in
+    let counted = sum_of_counts v u both_once f.counts g.counts in
+    let long = length-append v.ordinals u.ordinals in
+    let same : total begun new ≡ total begun s.views = omega arith in
+    let again : (k : ℕ) → total (times_given k) new ≡ total (times_given k) s.views =
+    λ k. (let t = total_set (times_given k) s.views id v w at in let n = total_set (times_given k) vs other u spent_device there in let e = times_append k v.ordinals u.ordinals in omega arith) in
+    record {
+      few = h.few;
+      all_seats = omega arith;
+      word = h.word ∙ ap (λ k. k ∷ []) (omega arith);
+      one_begun = omega arith;
+      settled = λ z. (let o = h.settled (omega arith) in omega arith);
+      quiet = λ z. (let o = h.quiet (omega arith) in omega arith);
+      once = λ k l. again k ∙ h.once k (omega arith);
+      none_else = λ k l. again k ∙ h.none_else k (omega arith);
+      each = λ j y e. subst (λ k. Suits all k y) (sym same) (⊎_elim
+          (λ (x : (j ≡ other) × (spent_device ≡ y)). subst (λ z. Suits all (total begun s.views) z) x.1
+          (record {
+            of_latch = λ z. absurd (omega arith);
+            one_channel = omega arith;
+            one_visit = omega arith;
+            few_gives = omega arith;
+            few_given = λ z. absurd (omega arith);
+            none_given = λ _. refl;
+            began = omega arith;
+            counts = λ _. refl;
+            fired_begun = omega arith;
+            found_shut = λ _. refl;
+            backing_shut = λ _. refl;
+          }))
+          (λ (x : (j ≢ other) × (get_elem? vs j ≡ some y)). ⊎_elim
+          (λ (x' : (j ≡ id) × (w ≡ y)). subst (λ z. Suits all (total begun s.views) z) x'.1
+          (record {
+            of_latch = λ _. f.of_latch some_v;
+            one_channel = (let p = f.one_channel in let q = g.one_channel in omega arith);
+            one_visit = (let p = f.one_visit in let q = g.one_visit in omega arith);
+            few_gives = f.few_gives;
+            few_given = λ _. (let p = f.few_given some_v in let q = g.few_given some_u in let r = g.few_gives in omega arith);
+            none_given = λ z. absurd (omega arith);
+            began = (let p = f.began in let q = g.began in omega arith);
+            counts = λ z. (let p = f.counts (omega arith) in let q = g.counts (omega arith) in omega arith);
+            fired_begun = (let p = f.fired_begun in let q = g.fired_begun in omega arith);
+            found_shut = λ z. (let p = f.found_shut z in let q = g.found_shut z in omega arith);
+            backing_shut = λ z. (let p = f.backing_shut z in let q = g.backing_shut z in omega arith);
+          }))
+          (λ (x' : (j ≢ id) × (get_elem? s.views j ≡ some y)). h.each j y x'.1)
+          (at_set s.views id j w y x.1))
+          (at_set vs other j spent_device y e));
+    }
+
+-- where a view stands for all seats, no other has anything
+tells : (all : ℕ) (s : St) (id : ℕ) (v : DeviceView) → Tied all s → get_elem? s.views id ≡ some v → 1 ≤ v.seats → v.seats ≡ v.all
+    → (slice_index s.words 0 ≡ device_word (v ∷ [])) × (opened v < 65536) × IsWhole v
+tells all s id v h at some_seat has_all =
+    let f = h.each id v at in
+    let of = f.of_latch some_seat in
+    let a = h.all_seats in
+    let none : (j : ℕ) (u : DeviceView) → j ≢ id → get_elem? s.views j ≡ some u → u.seats ≡ 0 = others_none seats s.views id v at (omega arith) in
+    let to = total_only opened s.views id v at (λ j u apart e. (let z = none j u apart e in let g = h.each j u e in let p = g.one_channel in let q = g.one_visit in omega arith)) in
+    let tk = total_only backing s.views id v at (λ j u apart e. (let z = none j u apart e in let p = (h.each j u e).one_channel in omega arith)) in
+    let th = total_only held s.views id v at (λ j u apart e. (let z = none j u apart e in let g = h.each j u e in let p = g.one_channel in let q = g.one_visit in omega arith)) in
+    let tg = total_only given s.views id v at (λ j u apart e. (h.each j u e).none_given (none j u apart e)) in
+    let tb = total_only begun s.views id v at (λ j u apart e. (let z = none j u apart e in let p = (h.each j u e).began in omega arith)) in
+    let tc = total_only count s.views id v at (λ j u apart e. (let z = none j u apart e in let g = h.each j u e in let p = g.began in g.counts (omega arith))) in
+    let tf = total_only fired s.views id v at (λ j u apart e. (let z = none j u apart e in let g = h.each j u e in let p = g.began in let q = g.fired_begun in omega arith)) in
+    let tt' : (k : ℕ) → total (times_given k) s.views ≡ times k v.ordinals = λ k. total_only (times_given k) s.views id v at (λ j u apart e. times_none k u.ordinals ((h.each j u e).none_given (none j u apart e))) in
+    let is = (reads all s h).is in
+    let few = (bounded all s h).few_open in
+    let once = h.one_begun in (
+      (omega arith),
+      (omega arith),
+      record {
+        ordinals = record { once = λ k l. sym (tt' k) ∙ h.once k (omega arith); none_else = λ k l. sym (tt' k) ∙ h.none_else k (omega arith) };
+        found = λ some_found. dite (ℕ_discrete (total begun s.views) 0) (λ z. absurd (let p = f.found_shut z in omega arith)) (λ nz. omega arith);
+        begun = omega arith;
+        settled = λ z. (let o = h.settled (omega arith) in omega arith);
+        fired = f.fired_begun;
+        quiet = λ z. (let o = h.quiet (omega arith) in omega arith);
+      },
+    )
+
+pub learns : (all slots id : ℕ) (me : Sat) → Allows (Tied all) slots id me 0 (λ n. n) (LearnsAll (step slots 0 0 0 none) me)
+learns all slots id me s h _ at small =
+    let is = (reads all s h).is in (
+      me.0,
+      keeps,
+      tt,
+      moved all s id me.0 me.0 (slice_index s.words 0) me.1 h at refl refl refl refl refl (omega arith) (λ _. omega arith) (h.each id me.0 at),
+      (refl, λ some_seat has_all. tells all s id me.0 h at some_seat has_all),
+    )
+
+-- the parts of the word of one view that stands for all
+pub word_parts : (v : DeviceView) (word : ℕ) → v.backing ≡ 0 → word ≡ device_word (v ∷ []) → opened v < 65536 → IsWhole v
+    → (word / 262144 ≡ length v.ordinals) × ((eqb (word / 131072 % 2) 1 ≡ true → v.fired ≡ 1) × (eqb (word / 131072 % 2) 1 ≡ false → v.fired ≡ 0))
+word_parts v word none_back is few whole =
+    let once = whole.begun in
+    let fires = whole.fired in
+    let bit : word / 131072 % 2 ≡ v.fired = omega arith in
+    dite (ℕ_discrete v.fired 0)
+    (λ unfired. (omega arith, ((λ yes. absurd (true≢false (sym yes ∙ ap (λ k. eqb k 1) (bit ∙ unfired)))), λ _. unfired)))
+    (λ has. (omega arith, ((λ _. omega arith), λ no. absurd (true≢false (sym (eq-eqb (word / 131072 % 2) 1 (omega arith)) ∙ no)))))

@@ -1,0 +1,153 @@
+-- What the rule of a device's latch bounds, and that it is kept where one view changes.
+use Rattle.std.proofs.Common.{◌≡◌, ◌≢◌, ℕ, ◌+◌, ◌*◌, ◌/◌, ◌<◌, ◌≤◌, List, [], ◌∷◌, length, set, refl, sym, ap, ◌∙◌, subst, ⊎_elim, arith, slice_index}
+use mathlib.Core.Option.{some, some-ne-none}
+use mathlib.Core.Logic.{dite}
+use native.Mathlib.Decide.{ℕ_discrete}
+use lib.ListN.{get_elem?}
+use Rattle.atomic_table.specs.Table.{State, Me, keeps, stepped, opening}
+use Rattle.atomic_table.proofs.Lists.{at_set, at_snoc}
+use Rattle.lw_latch.specs.declared.device_view.DeviceView.{DeviceView}
+use Rattle.lw_latch.specs.Totals.{total}
+use Rattle.lw_latch.specs.DeviceWord.{seats, given, backing, begun, count, fired, held, opened, times, times_given, device_word, Suits, Tied, first_view, shut_bit}
+use Rattle.lw_latch.proofs.Totals.{total_set, total_le, total_scaled, total_zero}
+
+abbrev pub St : Type 0
+St = State (Unit {0}) DeviceView
+
+abbrev pub Sat : Type 0
+Sat = Me (Unit {0}) DeviceView
+
+-- the bounds that the rule gives
+pub record Bounded (vs : List DeviceView) : Type 0 where
+  pub few_open : total opened vs ≤ 254
+  pub few_backing : total backing vs ≤ 127
+  pub few_given : total given vs ≤ 34909494181888
+  pub fired_begun : total fired vs ≤ total begun vs
+  pub held_opened : total held vs ≤ total opened vs
+
+pub bounded : (all : ℕ) (s : St) → Tied all s → Bounded s.views
+bounded all s h =
+    let vs = s.views in
+    let some_all = h.all_seats in
+    let few = h.few in
+    let o = total_le opened (λ v. 2 * v.seats) vs (λ i v e. (let f = h.each i v e in let a = f.one_channel in let b = f.one_visit in omega arith)) in
+    let os = total_scaled 2 seats vs in
+    let b = total_le backing seats vs (λ i v e. (let a = (h.each i v e).one_channel in omega arith)) in
+    let g = total_le given (λ v. 274877906944 * v.seats) vs (λ i v e. given_few v (h.each i v e)) in
+    let gs = total_scaled 274877906944 seats vs in
+    record {
+      few_open = omega arith;
+      few_backing = omega arith;
+      few_given = omega arith;
+      fired_begun = total_le fired begun vs (λ i v e. (h.each i v e).fired_begun);
+      held_opened = total_le held opened vs (λ i v e. omega arith);
+    }
+  where
+    given_few : (v : DeviceView) → Suits all (total begun s.views) v → given v ≤ 274877906944 * v.seats
+    given_few v f = dite (ℕ_discrete v.seats 0)
+        (λ none. (let z = f.none_given none in omega arith))
+        (λ some_seat. (let g = f.few_given (omega arith) in let c = f.few_gives in omega arith))
+
+pub word_found : (all : ℕ) (s : St) → Tied all s → slice_index s.words 0 ≡ device_word s.views
+word_found all s h = ap (λ l. slice_index l 0) h.word
+
+-- before the latch is shut nobody takes anything back
+pub none_backing : (all : ℕ) (s : St) → Tied all s → total begun s.views ≡ 0 → total backing s.views ≡ 0
+none_backing all s h unshut = total_zero backing s.views (λ i v e. (let b = (h.each i v e).backing_shut unshut in omega arith))
+
+-- what a word's parts are
+pub record Read (all : ℕ) (s : St) (n : ℕ) : Type 0 where
+  pub is : n ≡ device_word s.views
+  pub bit : shut_bit n ≡ total begun s.views
+  pub fits : n < 9223372036854775808
+  pub unshut : total begun s.views ≡ 0 → n / 262144 ≡ total given s.views
+  pub unbacked : total begun s.views ≡ 0 → total backing s.views ≡ 0
+  pub unfired : total begun s.views ≡ 0 → total fired s.views ≡ 0
+
+pub reads : (all : ℕ) (s : St) → Tied all s → Read all s (slice_index s.words 0)
+reads all s h =
+    let n : ℕ = slice_index s.words 0 in
+    let w = word_found all s h in
+    let b = bounded all s h in
+    let o = b.few_open in
+    let k = b.few_backing in
+    let g = b.few_given in
+    let f = b.fired_begun in
+    let once = h.one_begun in
+    record {
+      is = w;
+      bit = omega arith;
+      fits = omega arith;
+      unshut = λ z. (let none = none_backing all s h z in omega arith);
+      unbacked = λ z. none_backing all s h z;
+      unfired = λ z. omega arith;
+    }
+
+-- one view changes in what it has open, or in what it knows
+pub moved : (all : ℕ) (s : St) (id : ℕ) (v w : DeviceView) (n : ℕ) (c : List (ℕ × Unit {0})) → Tied all s → get_elem? s.views id ≡ some v
+    → w.seats ≡ v.seats → w.ordinals ≡ v.ordinals → w.begun ≡ v.begun → w.count ≡ v.count → w.fired ≡ v.fired
+    → n + opened v + 262144 * v.backing ≡ device_word s.views + opened w + 262144 * w.backing
+    → (1 ≤ total begun s.views → held w ≤ held v)
+    → Suits all (total begun s.views) w
+    → Tied all (stepped s 0 n id c w keeps)
+moved all s id v w n c h at p o be co fi is falls suits =
+    let vs : List DeviceView = set s.views id w in
+    let ts = total_set seats s.views id v w at in
+    let tg = total_set given s.views id v w at in
+    let tk = total_set backing s.views id v w at in
+    let tb = total_set begun s.views id v w at in
+    let tc = total_set count s.views id v w at in
+    let tf = total_set fired s.views id v w at in
+    let th = total_set held s.views id v w at in
+    let to = total_set opened s.views id v w at in
+    let lg = ap length o in
+    let a = h.all_seats in
+    let once = h.one_begun in
+    let b = (bounded all s h).fired_begun in
+    let same : total begun vs ≡ total begun s.views = omega arith in
+    let same_given : total given vs ≡ total given s.views = omega arith in
+    let sum : n ≡ device_word vs = omega arith in
+    let again : (k : ℕ) → total (times_given k) vs ≡ total (times_given k) s.views = λ k. (let t = total_set (times_given k) s.views id v w at in let e = ap (times k) o in omega arith) in
+    record {
+      few = h.few;
+      all_seats = omega arith;
+      word = ap (λ l. set l 0 n) h.word ∙ ap (λ k. k ∷ []) sum;
+      one_begun = omega arith;
+      settled = λ z. (let old = h.settled (omega arith) in omega arith);
+      quiet = λ z. (let old = h.quiet (omega arith) in let still = falls (omega arith) in omega arith);
+      once = λ k l. again k ∙ h.once k (omega arith);
+      none_else = λ k l. again k ∙ h.none_else k (omega arith);
+      each = λ j u e. subst (λ k. Suits all k u) (sym same)
+          (⊎_elim (λ (x : (j ≡ id) × (w ≡ u)). subst (λ y. Suits all (total begun s.views) y) x.1 suits) (λ (x : (j ≢ id) × (get_elem? s.views j ≡ some u)). h.each j u x.1) (at_set s.views id j w u e));
+    }
+
+pub begins : (all : ℕ) → all ≤ 127 → Tied all (opening (0 ∷ []) [] (first_view all))
+begins all few =
+    record {
+      few = few;
+      all_seats = omega arith;
+      word = refl;
+      one_begun = omega arith;
+      settled = λ z. absurd (omega arith);
+      quiet = λ z. absurd (omega arith);
+      once = λ k l. absurd (omega arith);
+      none_else = λ k l. refl;
+      each = λ j u e. ⊎_elim (λ (x : get_elem? {A = DeviceView} [] j ≡ some u). absurd (some-ne-none u (sym x)))
+          (λ (x : first_view all ≡ u). subst (λ y. Suits all 0 y) x (idle_suits all))
+          (at_snoc [] (first_view all) u j e);
+    }
+  where
+    idle_suits : (all : ℕ) → Suits all 0 (first_view all)
+    idle_suits all = record {
+      of_latch = λ _. refl;
+      one_channel = omega arith;
+      one_visit = omega arith;
+      few_gives = omega arith;
+      few_given = λ some_seat. omega arith;
+      none_given = λ _. refl;
+      began = omega arith;
+      counts = λ _. refl;
+      fired_begun = omega arith;
+      found_shut = λ _. refl;
+      backing_shut = λ _. refl;
+    }

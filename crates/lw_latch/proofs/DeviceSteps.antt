@@ -1,0 +1,426 @@
+-- Each kind of step keeps the rule of a device's latch.
+use Rattle.std.proofs.Common.{◌≡◌, ◌≢◌, ℕ, ◌+◌, ◌-◌, ◌/◌, ◌%◌, ◌^◌, ◌<◌, ◌≤◌, if◌then◌else◌, eqb, List, [], ◌∷◌, ◌++◌, set, refl, sym, ap, ◌∙◌, subst, ⊎_elim, arith, slice_index, eq-eqb, ne_eqb, bit_or, length-append}
+use mathlib.Core.Option.{none, some}
+use mathlib.Core.Logic.{dite}
+use native.Mathlib.Decide.{ℕ_discrete}
+use lib.ListN.{get_elem?}
+use prog.Atomic.{either}
+use Rattle.atomic_table.specs.Table.{keeps, step, stepped, Allows}
+use Rattle.atomic_table.proofs.Lists.{at_set}
+use Rattle.lw_latch.specs.declared.device_view.DeviceView.{DeviceView}
+use Rattle.lw_latch.specs.Totals.{total}
+use Rattle.lw_latch.specs.DeviceWord.{seats, given, backing, begun, count, fired, held, opened, times, times_given, device_word, Suits, Tied, shut_bit, closing_word, view_given, view_not_given, view_found, view_begun, view_tried, Gives, TakesBack, Holds, LetsGo, Releases, Unholds, LooksAtShut, Begins, TriesToFire}
+use Rattle.lw_latch.proofs.Totals.{total_set, at_le, total_zero}
+use Rattle.lw_latch.proofs.ShutBit.{sets_shut, keeps_shut}
+use Rattle.lw_latch.proofs.DeviceMoves.{St, Sat, bounded, reads, moved}
+
+-- what stands of a view whose calls and finds alone grow, where the latch is shut
+grown : (all shut : ℕ) (v : DeviceView) (g l f t n : ℕ) → Suits all shut v → shut ≢ 0 → v.gives ≤ g → g ≤ 274877906944
+    → Suits all shut (record v { gives = g; looks = l; found = f; tries = t; seen = n })
+grown all shut v g l f t n s is_shut more few =
+    record {
+      of_latch = s.of_latch;
+      one_channel = s.one_channel;
+      one_visit = s.one_visit;
+      few_gives = few;
+      few_given = λ some_seat. (let o = s.few_given some_seat in omega arith);
+      none_given = s.none_given;
+      began = s.began;
+      counts = s.counts;
+      fired_begun = s.fired_begun;
+      found_shut = λ z. absurd (is_shut z);
+      backing_shut = λ z. absurd (is_shut z);
+    }
+
+-- the same, and the channel, the visit or what is taken back changes
+changed : (all shut : ℕ) (v : DeviceView) (ch vi ba le : ℕ) → Suits all shut v → ch + ba ≤ v.seats → vi + le ≤ v.seats → (shut ≡ 0 → ba + le ≡ 0)
+    → Suits all shut (record v { channel = ch; visit = vi; backing = ba; leaving = le })
+changed all shut v ch vi ba le s c w b =
+    record {
+      of_latch = s.of_latch;
+      one_channel = c;
+      one_visit = w;
+      few_gives = s.few_gives;
+      few_given = s.few_given;
+      none_given = s.none_given;
+      began = s.began;
+      counts = s.counts;
+      fired_begun = s.fired_begun;
+      found_shut = s.found_shut;
+      backing_shut = b;
+    }
+
+-- one more channel is given, of an open latch
+gives_one : (all : ℕ) (s : St) (id : ℕ) (v : DeviceView) (n m : ℕ) (c : List (ℕ × Unit {0})) → Tied all s → get_elem? s.views id ≡ some v
+    → total begun s.views ≡ 0 → 1 ≤ v.seats → v.channel ≡ 0 → v.gives < 274877906944 → n ≡ device_word s.views + 262145 → m ≡ total given s.views
+    → Tied all (stepped s 0 n id c (view_given m v) keeps)
+gives_one all s id v n m c h at unshut some_seat free room is next =
+    let w : DeviceView = view_given m v in
+    let vs : List DeviceView = set s.views id w in
+    let ts = total_set seats s.views id v w at in
+    let tg = total_set given s.views id v w at in
+    let tk = total_set backing s.views id v w at in
+    let tb = total_set begun s.views id v w at in
+    let tf = total_set fired s.views id v w at in
+    let to = total_set opened s.views id v w at in
+    let long = length-append v.ordinals (m ∷ []) in
+    let a = h.all_seats in
+    let unfired = (bounded all s h).fired_begun in
+    let f = h.each id v at in
+    let back = f.backing_shut unshut in
+    let same : total begun vs ≡ total begun s.views = omega arith in
+    let more : total given vs ≡ total given s.views + 1 = omega arith in
+    let sum : n ≡ device_word vs = omega arith in
+    record {
+      few = h.few;
+      all_seats = omega arith;
+      word = ap (λ l. set l 0 n) h.word ∙ ap (λ k. k ∷ []) sum;
+      one_begun = omega arith;
+      settled = λ z. absurd (omega arith);
+      quiet = λ z. absurd (omega arith);
+      once = λ k l. (let t = total_set (times_given k) s.views id v w at in let e = times_snoc k m v.ordinals in dite (ℕ_discrete k m)
+          (λ here. (let o = h.none_else k (omega arith) in let x = e.0 here in omega arith))
+          (λ apart. (let o = h.once k (omega arith) in let x = e.1 apart in omega arith)));
+      none_else = λ k l. (let t = total_set (times_given k) s.views id v w at in let e = times_snoc k m v.ordinals in let o = h.none_else k (omega arith) in let x = e.1 (λ here. omega arith) in omega arith);
+      each = λ j u e. subst (λ k. Suits all k u) (sym same)
+          (⊎_elim
+          (λ (x : (j ≡ id) × (w ≡ u)). subst (λ y. Suits all (total begun s.views) y) x.1
+          (record {
+            of_latch = f.of_latch;
+            one_channel = omega arith;
+            one_visit = f.one_visit;
+            few_gives = omega arith;
+            few_given = λ z. (let o = f.few_given z in omega arith);
+            none_given = λ z. absurd (omega arith);
+            began = f.began;
+            counts = f.counts;
+            fired_begun = f.fired_begun;
+            found_shut = f.found_shut;
+            backing_shut = f.backing_shut;
+          }))
+          (λ (x : (j ≢ id) × (get_elem? s.views j ≡ some u)). h.each j u x.1)
+          (at_set s.views id j w u e));
+    }
+  where
+    times_snoc : (k m : ℕ) (xs : List ℕ) → (k ≡ m → times k (xs ++ m ∷ []) ≡ times k xs + 1) × (k ≢ m → times k (xs ++ m ∷ []) ≡ times k xs)
+    times_snoc k m [] = ((λ e. ap (λ b. (if b then 1 else 0) + 0) (eq-eqb m k (sym e))), λ e. ap (λ b. (if b then 1 else 0) + 0) (ne_eqb m k (λ z. e (sym z))))
+    times_snoc k m (x ∷ xs) = let r = times_snoc k m xs in ((λ e. (let a = r.0 e in omega arith)), λ e. (let a = r.1 e in omega arith))
+
+pub gives : (all slots id : ℕ) (me : Sat) → 1 ≤ me.0.seats → me.0.channel ≡ 0 → me.0.backing ≡ 0 → me.0.gives < 2 ^ 38
+    → Allows (Tied all) slots id me 0 (λ n. (n + 262145) % 2 ^ 64) (Gives (step slots 0 262145 0 none) me)
+gives all slots id me some_seat free idle room s h _ at small =
+    let v = me.0 in
+    let n : ℕ = slice_index s.words 0 in
+    let r = reads all s h in
+    let is = r.is in
+    let bit = r.bit in
+    let fits = r.fits in
+    let f = h.each id v at in
+    let now : (n + 262145) % 18446744073709551616 ≡ n + 262145 = omega arith in
+    dite (ℕ_discrete (shut_bit n) 0)
+    (λ unshut. (
+      view_given (n / 262144) v,
+      keeps,
+      tt,
+      gives_one all s id v ((n + 262145) % 18446744073709551616) (n / 262144) me.1 h at (omega arith) some_seat free room (omega arith) (r.unshut (omega arith)),
+      ((λ _. (refl, (f.found_shut (omega arith), (let b = at_le begun s.views id v at in omega arith)), λ k l. (let z = h.none_else k (let g = r.unshut (omega arith) in omega arith) in let t = at_le (times_given k) s.views id v at in omega arith))), λ shut. absurd (shut unshut)),
+    ))
+    (λ shut. (
+      record (view_not_given v) { backing = 1 },
+      keeps,
+      tt,
+      moved all s id v (record (view_not_given v) { backing = 1 }) ((n + 262145) % 18446744073709551616) me.1 h at refl refl refl refl refl (omega arith) (λ _. omega arith)
+          (changed all (total begun s.views) (view_not_given v) v.channel v.visit 1 v.leaving (grown all (total begun s.views) v (v.gives + 1) v.looks (v.found + 1) v.tries v.seen f (λ z. shut (omega arith)) (omega arith) (omega arith)) (omega arith) f.one_visit (λ z. absurd (shut (omega arith)))),
+      ((λ unshut. absurd (shut unshut)), λ _. refl),
+    ))
+
+pub takes_back : (all slots id : ℕ) (me : Sat) → me.0.backing ≡ 1
+    → Allows (Tied all) slots id me 0 (λ n. (n + (2 ^ 64 - 262145)) % 2 ^ 64) (TakesBack (step slots 0 262145 0 none) me)
+takes_back all slots id me back s h _ at small =
+    let v = me.0 in
+    let n : ℕ = slice_index s.words 0 in
+    let r = reads all s h in
+    let is = r.is in
+    let fits = r.fits in
+    let f = h.each id v at in
+    let there = at_le opened s.views id v at in
+    let backs = at_le backing s.views id v at in (
+      record v { backing = 0 },
+      keeps,
+      tt,
+      moved all s id v (record v { backing = 0 }) ((n + 18446744073709289471) % 18446744073709551616) me.1 h at refl refl refl refl refl (omega arith) (λ _. omega arith)
+          (changed all (total begun s.views) v v.channel v.visit 0 v.leaving f (let c = f.one_channel in omega arith) f.one_visit (λ z. (let b = f.backing_shut z in omega arith))),
+      refl,
+    )
+
+pub holds : (all slots id : ℕ) (me : Sat) → 1 ≤ me.0.seats → me.0.visit ≡ 0 → me.0.leaving ≡ 0
+    → Allows (Tied all) slots id me 0 (λ n. (n + 1) % 2 ^ 64) (Holds (step slots 0 1 0 none) me)
+holds all slots id me some_seat free idle s h _ at small =
+    let v = me.0 in
+    let n : ℕ = slice_index s.words 0 in
+    let r = reads all s h in
+    let is = r.is in
+    let bit = r.bit in
+    let fits = r.fits in
+    let f = h.each id v at in
+    dite (ℕ_discrete (shut_bit n) 0)
+    (λ unshut. (
+      record v { visit = 1 },
+      keeps,
+      tt,
+      moved all s id v (record v { visit = 1 }) ((n + 1) % 18446744073709551616) me.1 h at refl refl refl refl refl (omega arith) (λ z. absurd (omega arith))
+          (changed all (total begun s.views) v v.channel 1 v.backing v.leaving f f.one_channel (omega arith) f.backing_shut),
+      ((λ _. (refl, (f.found_shut (omega arith), (let b = at_le begun s.views id v at in omega arith)))), λ shut. absurd (shut unshut)),
+    ))
+    (λ shut. (
+      record (view_found v) { leaving = 1 },
+      keeps,
+      tt,
+      moved all s id v (record (view_found v) { leaving = 1 }) ((n + 1) % 18446744073709551616) me.1 h at refl refl refl refl refl (omega arith) (λ _. omega arith)
+          (changed all (total begun s.views) (view_found v) v.channel v.visit v.backing 1 (grown all (total begun s.views) v v.gives v.looks (v.found + 1) v.tries v.seen f (λ z. shut (omega arith)) (omega arith) f.few_gives) f.one_channel (omega arith) (λ z. absurd (shut (omega arith)))),
+      ((λ unshut. absurd (shut unshut)), λ _. refl),
+    ))
+
+pub lets_go : (all slots id : ℕ) (me : Sat) → me.0.leaving ≡ 1
+    → Allows (Tied all) slots id me 0 (λ n. (n + (2 ^ 64 - 1)) % 2 ^ 64) (LetsGo (step slots 0 1 0 none) me)
+lets_go all slots id me leaves s h _ at small =
+    let v = me.0 in
+    let n : ℕ = slice_index s.words 0 in
+    let r = reads all s h in
+    let is = r.is in
+    let fits = r.fits in
+    let f = h.each id v at in
+    let there = at_le opened s.views id v at in (
+      record v { leaving = 0 },
+      keeps,
+      tt,
+      moved all s id v (record v { leaving = 0 }) ((n + 18446744073709551615) % 18446744073709551616) me.1 h at refl refl refl refl refl (omega arith) (λ _. omega arith)
+          (changed all (total begun s.views) v v.channel v.visit v.backing 0 f f.one_channel (let c = f.one_visit in omega arith) (λ z. (let b = f.backing_shut z in omega arith))),
+      refl,
+    )
+
+pub releases : (all slots id : ℕ) (me : Sat) → me.0.channel ≡ 1
+    → Allows (Tied all) slots id me 0 (λ n. (n + (2 ^ 64 - 1)) % 2 ^ 64) (Releases (step slots 0 1 0 none) me)
+releases all slots id me has s h _ at small =
+    let v = me.0 in
+    let n : ℕ = slice_index s.words 0 in
+    let r = reads all s h in
+    let is = r.is in
+    let fits = r.fits in
+    let f = h.each id v at in
+    let there = at_le opened s.views id v at in (
+      record v { channel = 0 },
+      keeps,
+      tt,
+      moved all s id v (record v { channel = 0 }) ((n + 18446744073709551615) % 18446744073709551616) me.1 h at refl refl refl refl refl (omega arith) (λ _. omega arith)
+          (changed all (total begun s.views) v 0 v.visit v.backing v.leaving f (let c = f.one_channel in omega arith) f.one_visit f.backing_shut),
+      refl,
+    )
+
+pub unholds : (all slots id : ℕ) (me : Sat) → me.0.visit ≡ 1
+    → Allows (Tied all) slots id me 0 (λ n. (n + (2 ^ 64 - 1)) % 2 ^ 64) (Unholds (step slots 0 1 0 none) me)
+unholds all slots id me has s h _ at small =
+    let v = me.0 in
+    let n : ℕ = slice_index s.words 0 in
+    let r = reads all s h in
+    let is = r.is in
+    let fits = r.fits in
+    let f = h.each id v at in
+    let there = at_le opened s.views id v at in (
+      record v { visit = 0 },
+      keeps,
+      tt,
+      moved all s id v (record v { visit = 0 }) ((n + 18446744073709551615) % 18446744073709551616) me.1 h at refl refl refl refl refl (omega arith) (λ _. omega arith)
+          (changed all (total begun s.views) v v.channel 0 v.backing v.leaving f f.one_channel (let c = f.one_visit in omega arith) f.backing_shut),
+      refl,
+    )
+
+pub looks : (all slots id : ℕ) (me : Sat) → Allows (Tied all) slots id me 0 (λ n. n) (LooksAtShut (step slots 0 0 0 none) me)
+looks all slots id me s h _ at small =
+    let v = me.0 in
+    let n : ℕ = slice_index s.words 0 in
+    let r = reads all s h in
+    let is = r.is in
+    let bit = r.bit in
+    let f = h.each id v at in
+    let w : DeviceView = record v { looks = v.looks + 1; found = v.found + shut_bit n } in (
+      w,
+      keeps,
+      tt,
+      moved all s id v w n me.1 h at refl refl refl refl refl (omega arith) (λ _. omega arith)
+          (record {
+            of_latch = f.of_latch;
+            one_channel = f.one_channel;
+            one_visit = f.one_visit;
+            few_gives = f.few_gives;
+            few_given = f.few_given;
+            none_given = f.none_given;
+            began = f.began;
+            counts = f.counts;
+            fired_begun = f.fired_begun;
+            found_shut = λ z. (let o = f.found_shut z in omega arith);
+            backing_shut = f.backing_shut;
+          }),
+      (refl, λ unshut. (f.found_shut (omega arith), (let b = at_le begun s.views id v at in omega arith))),
+    )
+
+-- an open latch is shut
+begins_one : (all : ℕ) (s : St) (id : ℕ) (v : DeviceView) (n m : ℕ) (c : List (ℕ × Unit {0})) → Tied all s → get_elem? s.views id ≡ some v
+    → total begun s.views ≡ 0 → 1 ≤ v.seats → n ≡ device_word s.views + 65536 → m ≡ total given s.views
+    → Tied all (stepped s 0 n id c (view_begun m v) keeps)
+begins_one all s id v n m c h at unshut some_seat is told =
+    let w : DeviceView = view_begun m v in
+    let vs : List DeviceView = set s.views id w in
+    let ts = total_set seats s.views id v w at in
+    let tg = total_set given s.views id v w at in
+    let tk = total_set backing s.views id v w at in
+    let tb = total_set begun s.views id v w at in
+    let tc = total_set count s.views id v w at in
+    let tf = total_set fired s.views id v w at in
+    let th = total_set held s.views id v w at in
+    let to = total_set opened s.views id v w at in
+    let a = h.all_seats in
+    let mine = at_le begun s.views id v at in
+    let unfired = (bounded all s h).fired_begun in
+    let uncounted : total count s.views ≡ 0 = total_zero count s.views (λ i u e. (h.each i u e).counts (let b = at_le begun s.views i u e in omega arith)) in
+    let mine_uncounted = at_le count s.views id v at in
+    let f = h.each id v at in
+    let fb = f.fired_begun in
+    let sum : n ≡ device_word vs = omega arith in
+    record {
+      few = h.few;
+      all_seats = omega arith;
+      word = ap (λ l. set l 0 n) h.word ∙ ap (λ k. k ∷ []) sum;
+      one_begun = omega arith;
+      settled = λ _. omega arith;
+      quiet = λ z. absurd (omega arith);
+      once = λ k l. (let t = total_set (times_given k) s.views id v w at in let o = h.once k (omega arith) in omega arith);
+      none_else = λ k l. (let t = total_set (times_given k) s.views id v w at in let o = h.none_else k (omega arith) in omega arith);
+      each = λ j u e. ⊎_elim
+          (λ (x : (j ≡ id) × (w ≡ u)). subst (λ y. Suits all (total begun vs) y) x.1
+          (record {
+            of_latch = f.of_latch;
+            one_channel = f.one_channel;
+            one_visit = f.one_visit;
+            few_gives = f.few_gives;
+            few_given = f.few_given;
+            none_given = f.none_given;
+            began = some_seat;
+            counts = λ z. absurd (omega arith);
+            fired_begun = omega arith;
+            found_shut = λ z. absurd (omega arith);
+            backing_shut = λ z. absurd (omega arith);
+          }))
+          (λ (x : (j ≢ id) × (get_elem? s.views j ≡ some u)).
+          (let g = h.each j u x.1 in
+          record { of_latch = g.of_latch; one_channel = g.one_channel; one_visit = g.one_visit; few_gives = g.few_gives; few_given = g.few_given; none_given = g.none_given; began = g.began; counts = g.counts; fired_begun = g.fired_begun; found_shut = λ z. absurd (omega arith); backing_shut = λ z. absurd (omega arith) }))
+          (at_set s.views id j w u e);
+    }
+
+pub shuts : (all slots id : ℕ) (me : Sat) → 1 ≤ me.0.seats
+    → Allows (Tied all) slots id me 0 (λ n. bit_or n 65536) (Begins (step slots 0 65536 0 none) me)
+shuts all slots id me some_seat s h _ at small =
+    let v = me.0 in
+    let n : ℕ = slice_index s.words 0 in
+    let r = reads all s h in
+    let is = r.is in
+    let bit = r.bit in
+    let f = h.each id v at in
+    let mine = at_le begun s.views id v at in
+    dite (ℕ_discrete (shut_bit n) 0)
+    (λ unshut. (
+      view_begun (n / 262144) v,
+      keeps,
+      tt,
+      begins_one all s id v (bit_or n 65536) (n / 262144) me.1 h at (omega arith) some_seat (let o = sets_shut n unshut in omega arith) (r.unshut (omega arith)),
+      ((λ _. (refl, (f.found_shut (omega arith), omega arith), (let g = r.unshut (omega arith) in let t = at_le given s.views id v at in omega arith))), λ shut. absurd (shut unshut)),
+    ))
+    (λ shut. (
+      view_found v,
+      keeps,
+      tt,
+      moved all s id v (view_found v) (bit_or n 65536) me.1 h at refl refl refl refl refl (let o = keeps_shut n shut in omega arith) (λ _. omega arith)
+          (grown all (total begun s.views) v v.gives v.looks (v.found + 1) v.tries v.seen f (λ z. shut (omega arith)) (omega arith) f.few_gives),
+      ((λ unshut. absurd (shut unshut)), λ _. refl),
+    ))
+
+-- a shut latch with nothing open fires
+fires_once : (all : ℕ) (s : St) (id : ℕ) (v : DeviceView) (n m : ℕ) (c : List (ℕ × Unit {0})) → Tied all s → get_elem? s.views id ≡ some v
+    → v.begun ≡ 1 → device_word s.views ≡ closing_word m → n ≡ device_word s.views + 131072
+    → Tied all (stepped s 0 n id c (record v { fired = 1 }) keeps)
+fires_once all s id v n m c h at began closing is =
+    let w : DeviceView = record v { fired = 1 } in
+    let vs : List DeviceView = set s.views id w in
+    let ts = total_set seats s.views id v w at in
+    let tg = total_set given s.views id v w at in
+    let tk = total_set backing s.views id v w at in
+    let tb = total_set begun s.views id v w at in
+    let tc = total_set count s.views id v w at in
+    let tf = total_set fired s.views id v w at in
+    let th = total_set held s.views id v w at in
+    let to = total_set opened s.views id v w at in
+    let a = h.all_seats in
+    let once = h.one_begun in
+    let mine = at_le begun s.views id v at in
+    let mine_fired = at_le fired s.views id v at in
+    let b = bounded all s h in
+    let few = b.few_open in
+    let few_backing = b.few_backing in
+    let fired_few = b.fired_begun in
+    let less = b.held_opened in
+    let f = h.each id v at in
+    let unfired : total fired s.views ≡ 0 = omega arith in
+    let unopened : total opened s.views ≡ 0 = omega arith in
+    let sum : n ≡ device_word vs = omega arith in
+    let same : total begun vs ≡ total begun s.views = omega arith in
+    record {
+      few = h.few;
+      all_seats = omega arith;
+      word = ap (λ l. set l 0 n) h.word ∙ ap (λ k. k ∷ []) sum;
+      one_begun = omega arith;
+      settled = λ z. (let o = h.settled (omega arith) in omega arith);
+      quiet = λ _. omega arith;
+      once = λ k l. (let t = total_set (times_given k) s.views id v w at in let o = h.once k (omega arith) in omega arith);
+      none_else = λ k l. (let t = total_set (times_given k) s.views id v w at in let o = h.none_else k (omega arith) in omega arith);
+      each = λ j u e. subst (λ k. Suits all k u) (sym same)
+          (⊎_elim
+          (λ (x : (j ≡ id) × (w ≡ u)). subst (λ y. Suits all (total begun s.views) y) x.1
+          (record { of_latch = f.of_latch; one_channel = f.one_channel; one_visit = f.one_visit; few_gives = f.few_gives; few_given = f.few_given; none_given = f.none_given; began = f.began; counts = f.counts; fired_begun = omega arith; found_shut = f.found_shut; backing_shut = f.backing_shut }))
+          (λ (x : (j ≢ id) × (get_elem? s.views j ≡ some u)). h.each j u x.1)
+          (at_set s.views id j w u e));
+    }
+
+pub fires : (all slots id : ℕ) (me : Sat) (m old new : ℕ) → me.0.begun ≡ 1 → old ≡ closing_word m → new ≡ old + 131072
+    → Allows (Tied all) slots id me 0 (λ n. either (eqb n old) new n) (TriesToFire (step slots 0 old new none) me)
+fires all slots id me m old new began is_old is_new s h _ at small =
+    let v = me.0 in
+    let n : ℕ = slice_index s.words 0 in
+    let r = reads all s h in
+    let is = r.is in
+    let mine = at_le begun s.views id v at in
+    let mine_fired = at_le fired s.views id v at in
+    let mine_held = at_le held s.views id v at in
+    let once = h.one_begun in
+    let b = bounded all s h in
+    let few = b.few_open in
+    let few_backing = b.few_backing in
+    let fired_few = b.fired_begun in
+    let less = b.held_opened in
+    dite (ℕ_discrete n old)
+    (λ hit. (
+      record v { fired = 1 },
+      keeps,
+      tt,
+      subst (λ b. Tied all (stepped s 0 (either b new n) id me.1 (record v { fired = 1 }) keeps)) (sym (eq-eqb n old hit))
+          (fires_once all s id v new m me.1 h at began (omega arith) (omega arith)),
+      ((λ _. (refl, (omega arith), omega arith)), λ not. absurd (not hit)),
+    ))
+    (λ miss. (
+      view_tried n v,
+      keeps,
+      tt,
+      subst (λ b. Tied all (stepped s 0 (either b new n) id me.1 (view_tried n v) keeps)) (sym (ne_eqb n old miss))
+          (moved all s id v (view_tried n v) n me.1 h at refl refl refl refl refl (omega arith) (λ _. omega arith)
+          (grown all (total begun s.views) v v.gives v.looks v.found (v.tries + 1) n (h.each id v at) (λ z. omega arith) (omega arith) ((h.each id v at).few_gives))),
+      ((λ hit. absurd (miss hit)), λ _. refl),
+    ))

@@ -1,0 +1,6 @@
+use Rattle.std.proofs.Common.{rules}
+use Rattle.lw_latch.proofs.DeviceSteps.{shuts}
+use Rattle.lw_latch.proofs.device.DeviceSeat.shut.Goals as goal
+
+pub fetch_or-found-requires : goal.fetch_or-found-requires
+fetch_or-found-requires c = (search rules, search rules, shuts _ _ _ _ c.self.invariant.3)

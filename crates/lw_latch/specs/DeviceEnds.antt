@@ -1,0 +1,58 @@
+-- What callers see of the seats of a device's latch.
+use Rattle.std.specs.Prelude.{◌≡◌, ◌⊎◌, ℕ, ◌+◌, ◌<◌, ◌≤◌, ◌==◌, if◌then◌else◌, List, length, slice_index_or, All, Any}
+use Rattle.atomic_table.specs.Seated.{TableId}
+use Rattle.lw_latch.specs.declared.device_view.DeviceView.{DeviceView}
+use Rattle.lw_latch.specs.Totals.{total}
+use Rattle.lw_latch.specs.DeviceWord.{idle_view, both_views, times, held}
+
+-- which latch, and how many seats it was made with
+pub record DeviceLatch : Type 0 where
+  pub table : TableId
+  pub seats : ℕ
+
+-- a seat: of which latch it is, its number, the number of the seat that began the unregistration where it or one that it
+-- took in did so (0 where none did), and what it knows
+pub record SeatEnd : Type 0 where
+  pub latch : DeviceLatch
+  pub number : ℕ
+  pub began_by : ℕ
+  pub view : DeviceView
+
+-- a seat of a new latch
+abbrev pub new_seat : DeviceLatch → ℕ → SeatEnd
+new_seat latch number = record { latch = latch; number = number; began_by = 0; view = idle_view latch.seats 1 }
+
+-- the seats of a new latch, by their numbers
+pub record AreNewSeats (all : ℕ) (es : List SeatEnd) : Type 0 where
+  pub latch : DeviceLatch
+  pub for_seats : latch.seats ≡ all
+  pub seat_count : length es ≡ all
+  pub each_seat : (k : ℕ) (d : SeatEnd) → k < all → slice_index_or es k d ≡ new_seat latch k
+
+-- what two seats know together
+abbrev pub both_ends : SeatEnd → SeatEnd → SeatEnd
+both_ends e f = record e { began_by = if e.view.begun == 0 then f.began_by else e.began_by; view = both_views e.view f.view }
+
+-- the seat has no channel and no visit, and has fired where it began: it may be taken in
+pub record MayBeTakenIn (e : SeatEnd) : Type 0 where
+  pub no_channel : e.view.channel ≡ 0
+  pub no_visit : e.view.visit ≡ 0
+  pub has_fired : e.view.begun ≡ 1 → e.view.fired ≡ 1
+
+-- the device is known to have fired: by a seat that fired; or since one found it shut or began, and each that began fired
+abbrev pub HaveFired : List SeatEnd → Type 0
+HaveFired es =
+    (Any (λ e. e.view.fired ≡ 1) es)
+    ⊎ (Any (λ e. 1 ≤ e.view.found + e.view.begun) es × All (λ e. e.view.begun ≡ 1 → e.view.fired ≡ 1) es)
+
+-- what is known of a device once all of its seats are in one hand and it has fired: the ordinals of its channels are all
+-- numbers below the count of them, each once; one seat began, which was told that count and fired; nothing is open
+pub record Settles (es : List SeatEnd) (given began_by callbacks : ℕ) : Type 0 where
+  pub once : (k : ℕ) → k < given → total (λ e. times k e.view.ordinals) es ≡ 1
+  pub none_else : (k : ℕ) → given ≤ k → total (λ e. times k e.view.ordinals) es ≡ 0
+  pub count : total (λ e. length e.view.ordinals) es ≡ given
+  pub began : Any (λ e. (e.view.begun ≡ 1) × (e.view.count ≡ given) × (e.began_by ≡ began_by)) es
+  pub alone : total (λ e. e.view.begun) es ≡ 1
+  pub fired : total (λ e. e.view.fired) es ≡ callbacks
+  pub one_callback : callbacks ≡ 1
+  pub nothing_open : All (λ e. held e.view ≡ 0) es

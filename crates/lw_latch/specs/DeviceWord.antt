@@ -1,0 +1,217 @@
+-- The word of a device's latch: bits 0 to 15 count the open channels and visits, bit 16 is the shut bit, bit 17 the fired
+-- bit, and the bits above count the channels given.
+use Rattle.std.specs.Prelude.{◌≡◌, ◌≢◌, ℕ, ◌+◌, ◌-◌, ◌*◌, ◌/◌, ◌%◌, ◌<◌, ◌≤◌, ◌==◌, if◌then◌else◌, List, [], ◌∷◌, ◌++◌, length}
+use mathlib.Core.Option.{some}
+use lib.ListN.{get_elem?}
+use Rattle.atomic_table.specs.Table.{State, Me, Step}
+use Rattle.lw_latch.specs.declared.device_view.DeviceView.{DeviceView}
+use Rattle.lw_latch.specs.Totals.{total}
+
+abbrev pub seats : DeviceView → ℕ
+seats v = v.seats
+
+-- how many channels a view was given
+abbrev pub given : DeviceView → ℕ
+given v = length v.ordinals
+
+abbrev pub backing : DeviceView → ℕ
+backing v = v.backing
+
+abbrev pub begun : DeviceView → ℕ
+begun v = v.begun
+
+abbrev pub count : DeviceView → ℕ
+count v = v.count
+
+abbrev pub fired : DeviceView → ℕ
+fired v = v.fired
+
+-- how many channels and visits a view has
+abbrev pub held : DeviceView → ℕ
+held v = v.channel + v.visit
+
+-- what a view counts among the open ones: what it has, and what it is taking back
+abbrev pub opened : DeviceView → ℕ
+opened v = v.channel + v.visit + v.backing + v.leaving
+
+-- how often a number is among these
+abbrev pub times : ℕ → List ℕ → ℕ
+times k [] = 0
+times k (x ∷ xs) = (if x == k then 1 else 0) + times k xs
+
+-- how often a view was given an ordinal
+abbrev pub times_given : ℕ → DeviceView → ℕ
+times_given k v = times k v.ordinals
+
+-- the word that the views make
+abbrev pub device_word : List DeviceView → ℕ
+device_word vs = total opened vs + 65536 * total begun vs + 131072 * total fired vs + 262144 * (total given vs + total backing vs)
+
+-- what the rule says of one view of a latch of so many seats, which `shut` of them have shut
+pub record Suits (all shut : ℕ) (v : DeviceView) : Type 0 where
+  pub of_latch : 1 ≤ v.seats → v.all ≡ all
+  -- a seat has at most one channel and one visit, or takes one back
+  pub one_channel : v.channel + v.backing ≤ v.seats
+  pub one_visit : v.visit + v.leaving ≤ v.seats
+  -- each seat calls `give` at most 2^38 times
+  pub few_gives : v.gives ≤ 274877906944
+  pub few_given : 1 ≤ v.seats → length v.ordinals + 274877906944 ≤ v.gives + 274877906944 * v.seats
+  pub none_given : v.seats ≡ 0 → length v.ordinals ≡ 0
+  -- who began has a count, and who fired began
+  pub began : v.begun ≤ v.seats
+  pub counts : v.begun ≡ 0 → v.count ≡ 0
+  pub fired_begun : v.fired ≤ v.begun
+  -- the latch was found shut only where it is, and before it is nobody takes anything back
+  pub found_shut : shut ≡ 0 → v.found ≡ 0
+  pub backing_shut : shut ≡ 0 → v.backing + v.leaving ≡ 0
+
+-- the rule: the word is what the views make; the ordinals of the channels given are 0, 1, 2, .., each once; one seat at
+-- most shuts the latch, and from then on nothing is given; it fires once, with nothing open
+pub record Tied (all : ℕ) (s : State (Unit {0}) DeviceView) : Type 0 where
+  pub few : all ≤ 127
+  pub all_seats : total seats s.views ≡ all
+  pub word : s.words ≡ device_word s.views ∷ []
+  pub one_begun : total begun s.views ≤ 1
+  pub settled : 1 ≤ total begun s.views → total given s.views ≡ total count s.views
+  pub quiet : 1 ≤ total fired s.views → total held s.views ≡ 0
+  pub once : (k : ℕ) → k < total given s.views → total (times_given k) s.views ≡ 1
+  pub none_else : (k : ℕ) → total given s.views ≤ k → total (times_given k) s.views ≡ 0
+  pub each : (i : ℕ) (v : DeviceView) → get_elem? s.views i ≡ some v → Suits all (total begun s.views) v
+
+-- a view that has done nothing, of a latch of so many seats, which stands for some of them
+abbrev pub idle_view : ℕ → ℕ → DeviceView
+idle_view all seats = record { all = all; seats = seats; ordinals = []; gives = 0; channel = 0; visit = 0; backing = 0; leaving = 0; looks = 0; found = 0; begun = 0; count = 0; fired = 0; tries = 0; seen = 0 }
+
+-- a new latch's one view stands for all seats
+abbrev pub first_view : ℕ → DeviceView
+first_view all = idle_view all all
+
+-- the view of a seat that was joined away
+abbrev pub spent_device : DeviceView
+spent_device = idle_view 0 0
+
+-- one seat is split off
+abbrev pub one_seat : DeviceView → DeviceView
+one_seat v = idle_view v.all 1
+
+abbrev pub less_one_seat : DeviceView → DeviceView
+less_one_seat v = record v { seats = v.seats - 1 }
+
+-- what two seats know together; of its own calls each seat counts its own
+abbrev pub both_views : DeviceView → DeviceView → DeviceView
+both_views v w = record {
+  all = v.all;
+  seats = v.seats + w.seats;
+  ordinals = v.ordinals ++ w.ordinals;
+  gives = v.gives;
+  channel = v.channel + w.channel;
+  visit = v.visit + w.visit;
+  backing = v.backing + w.backing;
+  leaving = v.leaving + w.leaving;
+  looks = v.looks;
+  found = v.found + w.found;
+  begun = v.begun + w.begun;
+  count = if v.begun == 0 then w.count else v.count;
+  fired = v.fired + w.fired;
+  tries = v.tries;
+  seen = v.seen;
+}
+
+-- 1 where the word has the shut bit, else 0
+abbrev pub shut_bit : ℕ → ℕ
+shut_bit word = word / 65536 % 2
+
+-- the word of a shut latch that has not fired, with nothing open and so many given
+abbrev pub closing_word : ℕ → ℕ
+closing_word given = 65536 + 262144 * given
+
+-- What each call makes of a view.
+
+-- the ordinal is above all of these
+abbrev pub IsAbove : ℕ → List ℕ → Type 0
+IsAbove ordinal ks = (k : ℕ) → ordinal ≤ k → times k ks ≡ 0
+
+abbrev pub view_given : ℕ → DeviceView → DeviceView
+view_given ordinal v = record v { ordinals = v.ordinals ++ ordinal ∷ []; gives = v.gives + 1; channel = 1 }
+
+abbrev pub view_not_given : DeviceView → DeviceView
+view_not_given v = record v { gives = v.gives + 1; found = v.found + 1 }
+
+abbrev pub view_found : DeviceView → DeviceView
+view_found v = record v { found = v.found + 1 }
+
+abbrev pub view_begun : ℕ → DeviceView → DeviceView
+view_begun given v = record v { begun = 1; count = given }
+
+abbrev pub view_tried : ℕ → DeviceView → DeviceView
+view_tried seen v = record v { tries = v.tries + 1; seen = seen }
+
+-- neither did the seat find the latch shut, nor did it shut it
+abbrev pub KnowsOpen : DeviceView → Type 0
+KnowsOpen v = (v.found ≡ 0) × (v.begun ≡ 0)
+
+-- a seat: its view, and the slots that it holds, none here
+abbrev Sat : Type 0
+Sat = Me (Unit {0}) DeviceView
+
+-- What each kind of step tells, of the seat before it, the word that it found and the seat after it.
+
+abbrev pub Gives : Step (Unit {0}) → Sat → ℕ → Sat → Type 0
+Gives step old word new =
+    (shut_bit word ≡ 0 → (new ≡ (view_given (word / 262144) old.0, old.1)) × KnowsOpen old.0 × IsAbove (word / 262144) old.0.ordinals)
+    × (shut_bit word ≢ 0 → new ≡ (record (view_not_given old.0) { backing = 1 }, old.1))
+
+abbrev pub TakesBack : Step (Unit {0}) → Sat → ℕ → Sat → Type 0
+TakesBack step old word new = new ≡ (record old.0 { backing = 0 }, old.1)
+
+abbrev pub Holds : Step (Unit {0}) → Sat → ℕ → Sat → Type 0
+Holds step old word new =
+    (shut_bit word ≡ 0 → (new ≡ (record old.0 { visit = 1 }, old.1)) × KnowsOpen old.0)
+    × (shut_bit word ≢ 0 → new ≡ (record (view_found old.0) { leaving = 1 }, old.1))
+
+abbrev pub LetsGo : Step (Unit {0}) → Sat → ℕ → Sat → Type 0
+LetsGo step old word new = new ≡ (record old.0 { leaving = 0 }, old.1)
+
+abbrev pub Releases : Step (Unit {0}) → Sat → ℕ → Sat → Type 0
+Releases step old word new = new ≡ (record old.0 { channel = 0 }, old.1)
+
+abbrev pub Unholds : Step (Unit {0}) → Sat → ℕ → Sat → Type 0
+Unholds step old word new = new ≡ (record old.0 { visit = 0 }, old.1)
+
+abbrev pub LooksAtShut : Step (Unit {0}) → Sat → ℕ → Sat → Type 0
+LooksAtShut step old word new =
+    (new ≡ (record old.0 { looks = old.0.looks + 1; found = old.0.found + shut_bit word }, old.1))
+    × (shut_bit word ≡ 0 → KnowsOpen old.0)
+
+abbrev pub Begins : Step (Unit {0}) → Sat → ℕ → Sat → Type 0
+Begins step old word new =
+    (shut_bit word ≡ 0 → (new ≡ (view_begun (word / 262144) old.0, old.1)) × KnowsOpen old.0 × (given old.0 ≤ word / 262144))
+    × (shut_bit word ≢ 0 → new ≡ (view_found old.0, old.1))
+
+abbrev pub TriesToFire : Step (Unit {0}) → Sat → ℕ → Sat → Type 0
+TriesToFire step old word new =
+    (word ≡ step.first → (new ≡ (record old.0 { fired = 1 }, old.1)) × (old.0.fired ≡ 0) × (held old.0 ≡ 0))
+    × (word ≢ step.first → new ≡ (view_tried word old.0, old.1))
+
+-- the ordinals are all numbers below how many there are, each once
+pub record AreOrdinals (ks : List ℕ) : Type 0 where
+  pub once : (k : ℕ) → k < length ks → times k ks ≡ 1
+  pub none_else : (k : ℕ) → length ks ≤ k → times k ks ≡ 0
+
+-- what all seats together know of the device
+pub record IsWhole (v : DeviceView) : Type 0 where
+  pub ordinals : AreOrdinals v.ordinals
+  -- who found the latch shut was right, and one began at most
+  pub found : 1 ≤ v.found → v.begun ≡ 1
+  pub begun : v.begun ≤ 1
+  -- from the step that began on nothing was given
+  pub settled : v.begun ≡ 1 → length v.ordinals ≡ v.count
+  -- it fired at most once, with nothing open
+  pub fired : v.fired ≤ v.begun
+  pub quiet : v.fired ≡ 1 → held v ≡ 0
+
+-- a seat that stands for all learns that the word is its own, and what follows
+abbrev pub LearnsAll : Step (Unit {0}) → Sat → ℕ → Sat → Type 0
+LearnsAll step old word new =
+    (new ≡ old)
+    × (1 ≤ old.0.seats → old.0.seats ≡ old.0.all → (word ≡ device_word (old.0 ∷ [])) × (opened old.0 < 65536) × IsWhole old.0)
