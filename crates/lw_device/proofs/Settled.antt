@@ -2,7 +2,7 @@
 use Rattle.std.proofs.Common.{◌≡◌, ℕ, zero, suc, ◌+◌, ◌<◌, ◌≤◌, List, [], ◌∷◌, ◌++◌, length, get_or, refl, sym, ap, subst, ◌∙◌, ⊎_elim, arith, All, Any, length-append}
 use mathlib.Core.Logic.{dite}
 use native.Mathlib.Decide.{ℕ_discrete}
-use Rattle.lw_latch.specs.Totals.{total}
+use Rattle.lw_base.specs.Totals.{total}
 use Rattle.lw_latch.specs.DeviceWord.{held, times, IsWhole}
 use Rattle.lw_latch.specs.DeviceEnds.{SeatEnd, HaveFired, Settles}
 use Rattle.lw_device.specs.declared.settling.DeviceEnd.{DeviceEnd}

@@ -1,6 +1,6 @@
 -- The rows of a registry as callers see them.
 use Rattle.std.specs.Prelude.{◌≡◌, ℕ, ◌+◌, ◌<◌, ◌≤◌, List, [], ◌∷◌, length, map, slice_index_or, slice_set, All}
-use Rattle.lw_latch.specs.Totals.{total}
+use Rattle.lw_base.specs.Totals.{total}
 use Rattle.lw_latch.specs.DeviceWord.{view_given, view_not_given, view_found, view_begun, view_tried, IsWhole}
 use Rattle.lw_latch.specs.DeviceEnds.{DeviceLatch, SeatEnd, new_seat, both_ends, HaveFired}
 use Rattle.lw_device.specs.declared.settling.DeviceEnd.{DeviceEnd}

@@ -1,5 +1,5 @@
 //! A thread's row of the registry.
-ghost use Rattle.std.specs.Prelude.{◌≡◌, ◌≢◌, ℕ, ◌+◌, ◌^◌, ◌<◌, ◌≤◌, []  , ◌∷◌, ◌++◌, length, All, IfOk, IfErr};
+ghost use Rattle.std.specs.Prelude.{◌≡◌, ◌≢◌, ℕ, ◌+◌, ◌^◌, ◌<◌, ◌≤◌, [], ◌∷◌, ◌++◌, length, All, IfOk, IfErr};
 ghost use Rattle.lw_latch.specs.DeviceWord.{KnowsOpen, IsAbove, closing_word, held};
 ghost use Rattle.lw_latch.specs.DeviceEnds.{MayBeTakenIn};
 ghost use Rattle.lw_device.specs.Rows.{latches, seat_of, with_seat, both_rows, given, not_given, looked, found, visiting, not_visiting, destroyed, began, fired, tried};

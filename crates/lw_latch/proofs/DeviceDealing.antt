@@ -7,9 +7,9 @@ use lib.ListN.{get_elem?}
 use Rattle.atomic_table.specs.Table.{keeps, step, Allows, Splits, Joins}
 use Rattle.atomic_table.proofs.Lists.{at_set, at_snoc, set_else}
 use Rattle.lw_latch.specs.declared.device_view.DeviceView.{DeviceView}
-use Rattle.lw_latch.specs.Totals.{total}
+use Rattle.lw_base.specs.Totals.{total}
 use Rattle.lw_latch.specs.DeviceWord.{seats, given, backing, begun, count, fired, held, opened, times, times_given, device_word, Suits, Tied, idle_view, one_seat, less_one_seat, both_views, spent_device, IsWhole, LearnsAll}
-use Rattle.lw_latch.proofs.Totals.{total_set, total_snoc, total_only, others_none, at_le}
+use Rattle.lw_base.proofs.Totals.{total_set, total_snoc, total_only, others_none, at_le}
 use Rattle.lw_latch.proofs.DeviceMoves.{St, Sat, bounded, reads, moved}
 
 times_append : (k : ℕ) (xs ys : List ℕ) → times k (xs ++ ys) ≡ times k xs + times k ys

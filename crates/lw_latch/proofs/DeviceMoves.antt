@@ -7,9 +7,9 @@ use lib.ListN.{get_elem?}
 use Rattle.atomic_table.specs.Table.{State, Me, keeps, stepped, opening}
 use Rattle.atomic_table.proofs.Lists.{at_set, at_snoc}
 use Rattle.lw_latch.specs.declared.device_view.DeviceView.{DeviceView}
-use Rattle.lw_latch.specs.Totals.{total}
+use Rattle.lw_base.specs.Totals.{total}
 use Rattle.lw_latch.specs.DeviceWord.{seats, given, backing, begun, count, fired, held, opened, times, times_given, device_word, Suits, Tied, first_view, shut_bit}
-use Rattle.lw_latch.proofs.Totals.{total_set, total_le, total_scaled, total_zero}
+use Rattle.lw_base.proofs.Totals.{total_set, total_le, total_scaled, total_zero}
 
 abbrev pub St : Type 0
 St = State (Unit {0}) DeviceView

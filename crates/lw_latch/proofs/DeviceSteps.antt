@@ -8,9 +8,9 @@ use prog.Atomic.{either}
 use Rattle.atomic_table.specs.Table.{keeps, step, stepped, Allows}
 use Rattle.atomic_table.proofs.Lists.{at_set}
 use Rattle.lw_latch.specs.declared.device_view.DeviceView.{DeviceView}
-use Rattle.lw_latch.specs.Totals.{total}
+use Rattle.lw_base.specs.Totals.{total}
 use Rattle.lw_latch.specs.DeviceWord.{seats, given, backing, begun, count, fired, held, opened, times, times_given, device_word, Suits, Tied, shut_bit, closing_word, view_given, view_not_given, view_found, view_begun, view_tried, Gives, TakesBack, Holds, LetsGo, Releases, Unholds, LooksAtShut, Begins, TriesToFire}
-use Rattle.lw_latch.proofs.Totals.{total_set, at_le, total_zero}
+use Rattle.lw_base.proofs.Totals.{total_set, at_le, total_zero}
 use Rattle.lw_latch.proofs.ShutBit.{sets_shut, keeps_shut}
 use Rattle.lw_latch.proofs.DeviceMoves.{St, Sat, bounded, reads, moved}
 

@@ -5,7 +5,7 @@ use mathlib.Core.Option.{some}
 use lib.ListN.{get_elem?}
 use Rattle.atomic_table.specs.Table.{State, Me, Step}
 use Rattle.lw_latch.specs.declared.device_view.DeviceView.{DeviceView}
-use Rattle.lw_latch.specs.Totals.{total}
+use Rattle.lw_base.specs.Totals.{total}
 
 abbrev pub seats : DeviceView → ℕ
 seats v = v.seats

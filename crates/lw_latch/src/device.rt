@@ -159,10 +159,7 @@ impl DeviceSeat {
                   record (view_found self.old.view) { looks = self.old.view.looks + 1 };
             } }
     {
-        let found = self
-            .table
-            .shared
-            .load::<LookingAtShut>(&mut self.seat, 0);
+        let found = self.table.shared.load::<LookingAtShut>(&mut self.seat, 0);
         if found / SHUT % 2 == 0 {
             Look::Usable
         } else {
@@ -329,10 +326,7 @@ impl DeviceSeat {
             self.new ≡ record self.old { view = idle_view self.old.latch.seats (self.old.view.seats - 1) }) }
     {
         let table = Arc::try_clone(&self.table)?;
-        let seat = self
-            .table
-            .shared
-            .split_seat::<DeviceSeats>(&mut self.seat);
+        let seat = self.table.shared.split_seat::<DeviceSeats>(&mut self.seat);
         Ok(DeviceSeat {
             table,
             seat,

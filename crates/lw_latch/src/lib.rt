@@ -15,9 +15,7 @@ mod ring_view;
 #[cfg(test)]
 mod tests;
 
-pub use device::{
-    DeviceSeat, DeviceTotals, Firing, Give, Hold, Look, Shutting, device_latch,
-};
+pub use device::{DeviceSeat, DeviceTotals, Firing, Give, Hold, Look, Shutting, device_latch};
 pub use device_view::{DeviceRule, DeviceTable, DeviceView};
 pub use ring::{Closing, Enter, LatchRecv, LatchSend, ring_latch};
 pub use ring_view::{RingRule, RingTable, RingView};
