@@ -7,8 +7,6 @@
 
 mod ring;
 mod ring_view;
-#[cfg(test)]
-mod tests;
 
 pub use ring::{Closing, Enter, LatchRecv, LatchSend, ring_latch};
 pub use ring_view::{RingRule, RingTable, RingView};

@@ -1,3 +1,10 @@
 //! Tests through public calls, one module a subject. A crate with tests is proved twice, so the crates below keep none
 //! but those that need their private parts.
 #![tactic(auto)]
+
+#[cfg(test)]
+mod places;
+#[cfg(test)]
+mod ring_latches;
+#[cfg(test)]
+mod rings;
