@@ -10,7 +10,7 @@ use Rattle.atomic_table.specs.Table.{State, Me, keeps, step, stepped, opening, A
 use Rattle.atomic_table.proofs.Lists.{at_set, at_snoc}
 use Rattle.lw_latch.specs.declared.ring_view.RingView.{RingView}
 use Rattle.lw_base.specs.Totals.{total}
-use Rattle.lw_latch.specs.RingWord.{parts, inside, finished, closed, count, receives, word_of, Fits, Latched, first_view, spent_view, sender_view, less_one_part, joined, closed_bit, Enters, Leaves, Finishes, TriesToClose, Learns}
+use Rattle.lw_latch.specs.RingWord.{parts, inside, finished, closed, count, receives, word_of, alone, Fits, Latched, first_view, spent_view, sender_view, less_one_part, joined, closed_bit, Enters, Leaves, Finishes, TriesToClose, Learns}
 use Rattle.lw_latch.specs.RingEnds.{IsSender, IsReceiver}
 use Rattle.lw_base.proofs.Totals.{total_set, total_snoc, total_le, total_scaled, at_le, total_zero, total_only, others_none}
 
@@ -36,8 +36,8 @@ bounded s h =
     let receiver = h.one_receiver in
     record { few = omega arith; finite = omega arith; once = omega arith }
 
-word_found : (s : St) → Latched s → slice_index s.words 0 ≡ word_of s.views
-word_found s h = ap (λ l. slice_index l 0) h.word
+word_found : (s : St) → Latched s → slice_index s.words 8 ≡ word_of s.views
+word_found s h = ap (λ l. slice_index l 8) h.word
 
 -- one view changes in what it has inside and finished and found
 moved : (s : St) (id : ℕ) (v w : RingView) (n : ℕ) (c : List (ℕ × Unit {0})) → Latched s → get_elem? s.views id ≡ some v
@@ -45,7 +45,7 @@ moved : (s : St) (id : ℕ) (v w : RingView) (n : ℕ) (c : List (ℕ × Unit {0
     → n + v.inside + 131072 * v.finished ≡ word_of s.views + w.inside + 131072 * w.finished
     → (1 ≤ total closed s.views → w.finished ≡ v.finished)
     → Fits (total closed s.views) w
-    → Latched (stepped s 0 n id c w keeps)
+    → Latched (stepped s 8 n id c w keeps)
 moved s id v w n c h at p r cl co is fin fit =
     let vs : List RingView = set s.views id w in
     let tp = total_set parts s.views id v w at in
@@ -61,13 +61,13 @@ moved s id v w n c h at p r cl co is fin fit =
     record {
       all_parts = omega arith;
       one_receiver = omega arith;
-      word = ap (λ l. set l 0 n) h.word ∙ ap (λ k. k ∷ []) sum;
+      word = ap (λ l. set l 8 n) h.word ∙ ap alone sum;
       settled = λ some_closed. (let old = h.settled (omega arith) in let still = fin (omega arith) in omega arith);
       each = λ j u e. subst (λ k. Fits k u) (sym same)
           (⊎_elim (λ (x : (j ≡ id) × (w ≡ u)). subst (λ y. Fits (total closed s.views) y) x.1 fit) (λ (x : (j ≢ id) × (get_elem? s.views j ≡ some u)). h.each j u x.1) (at_set s.views id j w u e));
     }
 
-pub begins : Latched (opening (0 ∷ []) [] first_view)
+pub begins : Latched (opening (alone 0) [] first_view)
 begins = record {
   all_parts = refl;
   one_receiver = refl;
@@ -79,11 +79,11 @@ begins = record {
 }
 
 pub enters : (slots id : ℕ) (me : Sat) → IsSender me.0 → me.0.inside ≡ 0
-    → Allows Latched slots id me 0 (λ n. (n + 1) % 2 ^ 64) (Enters (step slots 0 1 0 none) me)
+    → Allows Latched slots id me 8 (λ n. (n + 1) % 2 ^ 64) (Enters (step slots 8 1 0 none) me)
 enters slots id me sender out s h _ at small =
     let v = me.0 in
     let part = sender.one_part in
-    let n : ℕ = slice_index s.words 0 in
+    let n : ℕ = slice_index s.words 8 in
     let is = word_found s h in
     let b = bounded s h in
     let fit = h.each id v at in
@@ -107,10 +107,10 @@ enters slots id me sender out s h _ at small =
     )
 
 pub leaves : (slots id : ℕ) (me : Sat) → me.0.inside ≡ 1
-    → Allows Latched slots id me 0 (λ n. (n + (2 ^ 64 - 1)) % 2 ^ 64) (Leaves (step slots 0 1 0 none) me)
+    → Allows Latched slots id me 8 (λ n. (n + (2 ^ 64 - 1)) % 2 ^ 64) (Leaves (step slots 8 1 0 none) me)
 leaves slots id me inside_one s h _ at small =
     let v = me.0 in
-    let n : ℕ = slice_index s.words 0 in
+    let n : ℕ = slice_index s.words 8 in
     let is = word_found s h in
     let b = bounded s h in
     let fit = h.each id v at in
@@ -132,23 +132,34 @@ leaves slots id me inside_one s h _ at small =
       refl,
     )
 
-pub finishes : (slots id : ℕ) (me : Sat) → IsSender me.0 → me.0.inside ≡ 1 → me.0.found ≡ 0 → me.0.finished < 2 ^ 40
-    → Allows Latched slots id me 0 (λ n. (n + 131071) % 2 ^ 64) (Finishes (step slots 0 131071 0 none) me)
-finishes slots id me sender inside_one not_found room s h _ at small =
+pub finishes : (slots id : ℕ) (me : Sat) (many add : ℕ) → IsSender me.0 → me.0.inside ≡ 1 → 1 ≤ many → me.0.finished + many ≤ 2 ^ 40 → add + 1 ≡ many * 131072
+    → Allows Latched slots id me 8 (λ n. (n + add) % 2 ^ 64) (Finishes (step slots 8 add 0 none) me)
+finishes slots id me many add sender inside_one some_finished room is_add s h _ at small =
     let v = me.0 in
-    let n : ℕ = slice_index s.words 0 in
+    let n : ℕ = slice_index s.words 8 in
     let is = word_found s h in
     let b = bounded s h in
     let fit = h.each id v at in
     let there = at_le inside s.views id v at in
     let part = sender.one_part in
+    let not_found = sender.inside_open inside_one in
     let unclosed : 1 ≤ total closed s.views → ⊥ = λ some_closed. (let f = fit.inside_found some_closed (omega arith) in omega arith) in
-    let w : RingView = record v { inside = 0; finished = v.finished + 1 } in
+    let counted : (add + 1) / 131072 ≡ many = omega arith in
+    let w : RingView = record v { inside = 0; finished = v.finished + (add + 1) / 131072 } in
+    let vs : List RingView = set s.views id w in
+    let tf = total_set finished s.views id v w at in
+    let tp = total_set parts s.views id v w at in
+    let finite = total_le finished (λ u. 1099511627776 * u.parts) vs (λ j u e. ⊎_elim
+    (λ (x : (j ≡ id) × (w ≡ u)). subst (λ y. y.finished ≤ 1099511627776 * y.parts) x.1 (omega arith))
+    (λ (x : (j ≢ id) × (get_elem? s.views j ≡ some u)). (h.each j u x.1).finished_parts)
+    (at_set s.views id j w u e)) in
+    let scaled = total_scaled 1099511627776 parts vs in
+    let all = h.all_parts in
     let fits_word : n < 18446744073709551616 = small in (
       w,
       keeps,
       tt,
-      moved s id v w ((n + 131071) % 18446744073709551616) me.1 h at refl refl refl refl (omega arith) (λ some_closed. absurd (unclosed some_closed))
+      moved s id v w ((n + add) % 18446744073709551616) me.1 h at refl refl refl refl (omega arith) (λ some_closed. absurd (unclosed some_closed))
           (record {
             inside_parts = omega arith;
             finished_parts = omega arith;
@@ -162,8 +173,8 @@ finishes slots id me sender inside_one not_found room s h _ at small =
 
 -- the word that the receiver closes
 closing : (s : St) (id : ℕ) (v : RingView) (taken : ℕ) (c : List (ℕ × Unit {0})) → Latched s → get_elem? s.views id ≡ some v → v.receives ≡ 1 → v.inside ≡ 0 → v.closed ≡ 0
-    → slice_index s.words 0 ≡ taken * 131072
-    → Latched (stepped s 0 (taken * 131072 + 65536) id c (record v { closed = 1; count = taken }) keeps)
+    → slice_index s.words 8 ≡ taken * 131072
+    → Latched (stepped s 8 (taken * 131072 + 65536) id c (record v { closed = 1; count = taken }) keeps)
 closing s id v taken c h at receives_one out not_closed found_it =
     let w : RingView = record v { closed = 1; count = taken } in
     let vs : List RingView = set s.views id w in
@@ -171,9 +182,9 @@ closing s id v taken c h at receives_one out not_closed found_it =
     let b = bounded s h in
     let fit = h.each id v at in
     let receiver = h.one_receiver in
-    let alone : (j : ℕ) (u : RingView) → j ≢ id → get_elem? s.views j ≡ some u → u.closed ≡ 0 =
+    let others_open : (j : ℕ) (u : RingView) → j ≢ id → get_elem? s.views j ≡ some u → u.closed ≡ 0 =
     λ j u apart e. (let r = others_none receives s.views id v at (omega arith) j u apart e in let k = (h.each j u e).closes in omega arith) in
-    let none_closed = total_only closed s.views id v at alone in
+    let none_closed = total_only closed s.views id v at others_open in
     let none_counted = total_zero count s.views (λ j u e. (let k = at_le closed s.views j u e in (h.each j u e).counts (omega arith))) in
     let tp = total_set parts s.views id v w at in
     let tr = total_set receives s.views id v w at in
@@ -188,7 +199,7 @@ closing s id v taken c h at receives_one out not_closed found_it =
     record {
       all_parts = omega arith;
       one_receiver = omega arith;
-      word = ap (λ l. set l 0 (taken * 131072 + 65536)) h.word ∙ ap (λ k. k ∷ []) (omega arith);
+      word = ap (λ l. set l 8 (taken * 131072 + 65536)) h.word ∙ ap alone (omega arith);
       settled = λ _. omega arith;
       each = λ j u e. subst (λ k. Fits k u) (sym now) (⊎_elim
           (λ (x : (j ≡ id) × (w ≡ u)). subst (λ y. Fits 1 y) x.1 (record { inside_parts = fit.inside_parts; finished_parts = fit.finished_parts; closes = omega arith; counts = λ z. absurd (omega arith); found_closed = λ z. absurd (omega arith); inside_found = λ _ z. absurd (omega arith) }))
@@ -199,16 +210,16 @@ closing s id v taken c h at receives_one out not_closed found_it =
           (at_set s.views id j w u e));
     }
 
-same_state : (s : St) (id : ℕ) (v : RingView) (c : List (ℕ × Unit {0})) → Latched s → get_elem? s.views id ≡ some v → Latched (stepped s 0 (slice_index s.words 0) id c v keeps)
-same_state s id v c h at = moved s id v v (slice_index s.words 0) c h at refl refl refl refl (let is = word_found s h in omega arith) (λ _. refl) (h.each id v at)
+same_state : (s : St) (id : ℕ) (v : RingView) (c : List (ℕ × Unit {0})) → Latched s → get_elem? s.views id ≡ some v → Latched (stepped s 8 (slice_index s.words 8) id c v keeps)
+same_state s id v c h at = moved s id v v (slice_index s.words 8) c h at refl refl refl refl (let is = word_found s h in omega arith) (λ _. refl) (h.each id v at)
 
 again : (c : ℕ) (v : RingView) (m n : ℕ) → Fits c v → Fits c (record v { tries = m; seen = n })
 again c v m n f = record { inside_parts = f.inside_parts; finished_parts = f.finished_parts; closes = f.closes; counts = f.counts; found_closed = f.found_closed; inside_found = f.inside_found }
 
 pub closes : (slots id : ℕ) (me : Sat) (taken old new : ℕ) → IsReceiver me.0 → me.0.closed ≡ 0 → old ≡ taken * 131072 → new ≡ old + 65536
-    → Allows Latched slots id me 0 (λ n. either (eqb n old) new n) (TriesToClose (step slots 0 old new none) me)
+    → Allows Latched slots id me 8 (λ n. either (eqb n old) new n) (TriesToClose (step slots 8 old new none) me)
 closes slots id me taken old new receiver not_closed is_old is_new s h _ at small =
-    let n : ℕ = slice_index s.words 0 in
+    let n : ℕ = slice_index s.words 8 in
     let w : RingView = record me.0 { closed = 1; count = old / 131072 } in
     let u : RingView = record me.0 { tries = me.0.tries + 1; seen = n } in
     let to_word : taken * 131072 + 65536 ≡ new = omega arith in
@@ -219,8 +230,8 @@ closes slots id me taken old new receiver not_closed is_old is_new s h _ at smal
       w,
       keeps,
       tt,
-      subst (λ b. Latched (stepped s 0 (either b new n) id me.1 w keeps)) (sym (eq-eqb n old hit))
-          (subst (λ (y : ℕ × ℕ). Latched (stepped s 0 y.0 id me.1 (record me.0 { closed = 1; count = y.1 }) keeps)) (λ i. (to_word i, to_count i))
+      subst (λ b. Latched (stepped s 8 (either b new n) id me.1 w keeps)) (sym (eq-eqb n old hit))
+          (subst (λ (y : ℕ × ℕ). Latched (stepped s 8 y.0 id me.1 (record me.0 { closed = 1; count = y.1 }) keeps)) (λ i. (to_word i, to_count i))
           (closing s id me.0 taken me.1 h at receiver.0 receiver.1 not_closed (hit ∙ is_old))),
       ((λ _. refl), λ not. absurd (not hit)),
     ))
@@ -228,13 +239,13 @@ closes slots id me taken old new receiver not_closed is_old is_new s h _ at smal
       u,
       keeps,
       tt,
-      subst (λ b. Latched (stepped s 0 (either b new n) id me.1 u keeps)) (sym (ne_eqb n old miss))
+      subst (λ b. Latched (stepped s 8 (either b new n) id me.1 u keeps)) (sym (ne_eqb n old miss))
           (moved s id me.0 u n me.1 h at refl refl refl refl (omega arith) (λ _. refl) (again (total closed s.views) me.0 (me.0.tries + 1) n (h.each id me.0 at))),
       ((λ hit. absurd (miss hit)), λ _. refl),
     ))
 
 tells : (s : St) (id : ℕ) (v : RingView) → Latched s → get_elem? s.views id ≡ some v → v.parts ≡ 127 → v.receives ≡ 1
-    → (slice_index s.words 0 ≡ word_of (v ∷ [])) × (1 ≤ v.closed → v.finished ≡ v.count) × (1 ≤ v.found → v.closed ≡ 1)
+    → (slice_index s.words 8 ≡ word_of (v ∷ [])) × (1 ≤ v.closed → v.finished ≡ v.count) × (1 ≤ v.found → v.closed ≡ 1)
 tells s id v h at has_all receives_one =
     let is = word_found s h in
     let b = bounded s h in
@@ -251,7 +262,7 @@ tells s id v h at has_all receives_one =
     let fc = fit.found_closed in
     (omega arith, (λ some_closed. omega arith), (λ some_found. dite (ℕ_discrete (total closed s.views) 0) (λ z. absurd (let f = fc z in omega arith)) (λ nz. omega arith)))
 
-pub looks : (slots id : ℕ) (me : Sat) → Allows Latched slots id me 0 (λ n. n) (Learns (step slots 0 0 0 none) me)
+pub looks : (slots id : ℕ) (me : Sat) → Allows Latched slots id me 8 (λ n. n) (Learns (step slots 8 0 0 none) me)
 looks slots id me s h _ at small = (me.0, keeps, tt, same_state s id me.0 me.1 h at, (refl, λ p r. tells s id me.0 h at p r))
 
 -- a view is cut or joined: the totals stay
@@ -278,7 +289,7 @@ splits id v some_part out none_finished s h at =
     record {
       all_parts = omega arith;
       one_receiver = omega arith;
-      word = h.word ∙ ap (λ k. k ∷ []) (omega arith);
+      word = h.word ∙ ap alone (omega arith);
       settled = λ some_closed. (let old = h.settled (omega arith) in omega arith);
       each = λ j u e. subst (λ k. Fits k u) (sym same) (⊎_elim
           (λ (here : get_elem? vs j ≡ some u). ⊎_elim
@@ -316,7 +327,7 @@ joins id v other u out out' s h at apart there =
     record {
       all_parts = omega arith;
       one_receiver = omega arith;
-      word = h.word ∙ ap (λ k. k ∷ []) (omega arith);
+      word = h.word ∙ ap alone (omega arith);
       settled = λ some_closed. (let old = h.settled (omega arith) in omega arith);
       each = λ j y e. subst (λ k. Fits k y) (sym same) (⊎_elim
           (λ (x : (j ≡ other) × (spent_view ≡ y)). subst (λ z. Fits (total closed s.views) z) x.1

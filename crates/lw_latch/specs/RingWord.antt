@@ -29,6 +29,11 @@ count v = v.count
 abbrev pub word_of : List RingView → ℕ
 word_of vs = total inside vs + 65536 * total closed vs + 131072 * total finished vs
 
+-- the words of the table: the latch's stands alone, with unused ones before and behind it, so that what others write next
+-- to the table never lies on its cache line
+abbrev pub alone : ℕ → List ℕ
+alone word = 0 ∷ 0 ∷ 0 ∷ 0 ∷ 0 ∷ 0 ∷ 0 ∷ 0 ∷ word ∷ 0 ∷ 0 ∷ 0 ∷ 0 ∷ 0 ∷ 0 ∷ 0 ∷ []
+
 -- what the rule says of one view of a latch that `shut` seats have closed
 pub record Fits (shut : ℕ) (v : RingView) : Type 0 where
   -- only a sender is inside, and it has finished at most 2^40 messages
@@ -45,7 +50,7 @@ pub record Fits (shut : ℕ) (v : RingView) : Type 0 where
 pub record Latched (s : State (Unit {0}) RingView) : Type 0 where
   pub all_parts : total parts s.views ≡ 127
   pub one_receiver : total receives s.views ≡ 1
-  pub word : s.words ≡ word_of s.views ∷ []
+  pub word : s.words ≡ alone (word_of s.views)
   pub settled : 1 ≤ total closed s.views → total finished s.views ≡ total count s.views
   pub each : (i : ℕ) (v : RingView) → get_elem? s.views i ≡ some v → Fits (total closed s.views) v
 
@@ -97,7 +102,7 @@ abbrev pub Leaves : Step (Unit {0}) → Sat → ℕ → Sat → Type 0
 Leaves step old word new = new ≡ (record old.0 { inside = 0 }, old.1)
 
 abbrev pub Finishes : Step (Unit {0}) → Sat → ℕ → Sat → Type 0
-Finishes step old word new = new ≡ (record old.0 { inside = 0; finished = old.0.finished + 1 }, old.1)
+Finishes step old word new = new ≡ (record old.0 { inside = 0; finished = old.0.finished + (step.first + 1) / 131072 }, old.1)
 
 abbrev pub TriesToClose : Step (Unit {0}) → Sat → ℕ → Sat → Type 0
 TriesToClose step old word new =

@@ -12,8 +12,6 @@ mod device;
 mod device_view;
 mod ring;
 mod ring_view;
-#[cfg(test)]
-mod tests;
 
 pub use device::{DeviceSeat, DeviceTotals, Firing, Give, Hold, Look, Shutting, device_latch};
 pub use device_view::{DeviceRule, DeviceTable, DeviceView};

@@ -12,6 +12,12 @@ use std::alloc::Global;
 use std::marker::Model;
 use std::sync::Arc;
 
+/// How many words the table has, and which of them is the latch's: 64 bytes stand before it and 56 behind it, so that it
+/// lies alone on its cache line.
+const WORDS: usize = 16;
+
+const WORD: usize = 8;
+
 /// The closed bit. Below it the word counts the senders inside.
 const CLOSED: u64 = 65_536;
 
@@ -54,7 +60,7 @@ impl Model for LatchSend {
 
     ghost invariant = { λ s.
         (s.seat.table_id ≡ (arc_value s.table).shared.table_id)
-        × (s.seat.table_id.words ≡ 1)
+        × (s.seat.table_id.words ≡ 16)
         × (s.seat.me.1 ≡ [])
         × IsSender s.seat.me.0 };
 }
@@ -77,7 +83,7 @@ impl Model for LatchRecv {
 
     ghost invariant = { λ s.
         (s.seat.table_id ≡ (arc_value s.table).shared.table_id)
-        × (s.seat.table_id.words ≡ 1)
+        × (s.seat.table_id.words ≡ 16)
         × (s.seat.me.1 ≡ [])
         × IsReceiver s.seat.me.0 };
 }
@@ -97,26 +103,29 @@ impl LatchSend {
         let found = self
             .table
             .shared
-            .fetch_add::<Entering>(&mut self.seat, 0, 1);
+            .fetch_add::<Entering>(&mut self.seat, WORD, 1);
         if found / CLOSED % 2 == 0 {
             return Enter::Inside;
         }
-        self.table.shared.fetch_sub::<Leaving>(&mut self.seat, 0, 1);
+        self.table
+            .shared
+            .fetch_sub::<Leaving>(&mut self.seat, WORD, 1);
         Enter::Closed
     }
 
-    /// Gets out with one more message finished, in one step.
-    pub fn finish(&mut self)
-        requires inside { (self.old.view.inside ≡ 1) × (self.old.view.found ≡ 0) }
-        requires room { self.old.view.finished < 2 ^ 40 }
+    /// Gets out with `count` more messages finished, in one step: at least one, and with those before at most 2^40.
+    pub fn finish(&mut self, count: u64)
+        requires inside { self.old.view.inside ≡ 1 }
+        requires some { 1 ≤ count }
+        requires room { self.old.view.finished + count ≤ 2 ^ 40 }
         ensures { self.new ≡ record self.old {
           view =
-              record self.old.view { inside = 0; finished = self.old.view.finished + 1 };
+              record self.old.view { inside = 0; finished = self.old.view.finished + count };
         } }
     {
         self.table
             .shared
-            .fetch_add::<Finishing>(&mut self.seat, 0, FINISHED - 1);
+            .fetch_add::<Finishing>(&mut self.seat, WORD, count * FINISHED - 1);
     }
 
     /// Gets out with nothing finished, in one step.
@@ -124,7 +133,9 @@ impl LatchSend {
         requires { self.old.view.inside ≡ 1 }
         ensures { self.new ≡ record self.old { view = record self.old.view { inside = 0 } } }
     {
-        self.table.shared.fetch_sub::<Leaving>(&mut self.seat, 0, 1);
+        self.table
+            .shared
+            .fetch_sub::<Leaving>(&mut self.seat, WORD, 1);
     }
 }
 
@@ -148,7 +159,7 @@ impl LatchRecv {
         let seen = self
             .table
             .shared
-            .compare_exchange::<Shutting>(&mut self.seat, 0, all_taken, all_taken + CLOSED);
+            .compare_exchange::<Shutting>(&mut self.seat, WORD, all_taken, all_taken + CLOSED);
         if seen == all_taken {
             Closing::Closed
         } else {
@@ -178,7 +189,7 @@ impl LatchRecv {
         ensures settled { 1 ≤ self.old.view.closed → self.old.view.finished ≡ self.old.view.count }
         ensures found { 1 ≤ self.old.view.found → self.old.view.closed ≡ 1 }
     {
-        self.table.shared.load::<Looking>(&mut self.seat, 0)
+        self.table.shared.load::<Looking>(&mut self.seat, WORD)
     }
 
     // One more sender's seat.
@@ -201,7 +212,7 @@ pub fn ring_latch(alloc: Global, senders: u32) -> Result<(LatchRecv, Vec<LatchSe
     ensures count { IfOk result (λ r. length r.1.items ≡ senders) }
     ensures ends { IfOk result (λ r. All (λ s. s ≡ new_sender r.0.latch) r.1.items) }
 {
-    let (table, seat) = RingTable::of_words(alloc, &[0], &())?;
+    let (table, seat) = RingTable::of_words(alloc, &[0; WORDS], &())?;
     let mut recv = LatchRecv {
         table: Arc::new(alloc, table)?,
         seat,

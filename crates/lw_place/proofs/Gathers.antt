@@ -1,23 +1,24 @@
 -- Seats gathered into one.
-use Rattle.std.proofs.Common.{◌≡◌, ℕ, zero, suc, ◌+◌, ◌<◌, ◌≤◌, max, List, [], ◌∷◌, ◌++◌, length, map, refl, sym, ap, subst, ◌∙◌, ⊎_elim, arith, All, Any}
+use Rattle.std.proofs.Common.{◌≡◌, ℕ, zero, suc, ◌+◌, ◌<◌, ◌≤◌, max, List, [], ◌∷◌, ◌++◌, length, map, refl, sym, ap, subst, ◌∙◌, ⊎_elim, arith, All, Any, Contains, if◌then◌else◌}
 use Rattle.std.specs.Prelude.{slice_index_or}
 use Rattle.std.proofs.lemmas.List.{length-map, get_or_push, get_or_append_left}
 use Rattle.std.proofs.lemmas.List.Elements.{All-map, All-contains}
 use Rattle.lw_place.specs.declared.place.Place.TheVariants as place
 use mathlib.Core.Logic.{dite}
 use native.Mathlib.Decide.{ℕ_discrete}
-use Rattle.lw_place.specs.PlaceTable.{StandsAt}
+use Rattle.lw_place.specs.PlaceTable.{StandsAt, times}
+use Rattle.lw_place.proofs.Standing.{times_here}
 use Rattle.lw_place.specs.declared.place.Place.{Place}
 use Rattle.lw_place.specs.declared.table.Stand.{Stand}
 use Rattle.lw_place.specs.PlaceSeats.{Places, ThreadEnd, DeskEnd, BundleEnd, places_of, stand, all_retired, all_halted, most_seen, AreEnded, AreAllSeats, Holds}
 
 -- what a desk saw is at most what was seen most
-seen_most : (n k : ℕ) (x : DeskEnd) (ds : List DeskEnd) → k < length ds → slice_index_or ds k x ≡ x → x.done_seen ≡ n → n ≤ most_seen ds
+seen_most : (n k : ℕ) (x : DeskEnd) (ds : List DeskEnd) → k < length ds → slice_index_or ds k x ≡ x → n ≤ x.done_seen → n ≤ most_seen ds
 seen_most n k x [] l is e = absurd (omega arith)
 seen_most n zero x (d ∷ ds) l is e = let same = ap (λ (y : DeskEnd). y.done_seen) is in omega arith
 seen_most n (suc k) x (d ∷ ds) l is e = let r = seen_most n k x ds (omega arith) is e in omega arith
 
-any_seen : (n : ℕ) (ds : List DeskEnd) → Any (λ d. d.done_seen ≡ n) ds → n ≤ most_seen ds
+any_seen : (n : ℕ) (ds : List DeskEnd) → Any (λ d. n ≤ d.done_seen) ds → n ≤ most_seen ds
 any_seen n ds a = seen_most n a.0 a.1 ds a.2 a.3 a.4
 
 pub most_snoc : (ds : List DeskEnd) (d : DeskEnd) → most_seen (ds ++ d ∷ []) ≡ max (most_seen ds) d.done_seen
@@ -89,3 +90,20 @@ nil_from_length (x ∷ xs) e = absurd (omega arith)
 -- where all of these have ended, each has
 pub ends_there : (ts : List ThreadEnd) (k : ℕ) (p : Place) → All (λ t. t.place ≡ place.Ended) ts → StandsAt (map stand ts) k p → p ≡ place.Ended
 ends_there ts k p ended at = All-contains (λ (x : Stand). x.place ≡ place.Ended) (map stand ts) (record { thread = k; place = p }) (All-map (λ (x : Stand). x.place ≡ place.Ended) stand ts ended) at.among
+
+-- all threads' seats are there
+pub all_seats : (ts : List ThreadEnd) (ds : List DeskEnd) (w : BundleEnd) (a : AreAllSeats ts ds) → Gathered a.places ts ds w → length w.view.stands ≡ w.view.threads → All (λ d. length ts ≡ d.places.threads) ds
+all_seats ts ds w a g all = λ k d l.
+    let n = ap (λ (p : Places). p.threads) (g.of) in
+    let its = ap (λ (p : Places). p.threads) (a.its_desks k d l) in
+    let long : length w.view.stands ≡ length ts = ap length g.stands ∙ length-map ts stand in
+    omega arith
+
+-- a thread that stands among these is there
+pub times_among : (t : ℕ) (p : Place) (xs : List Stand) → Contains xs (record { thread = t; place = p }) → 1 ≤ times t xs
+times_among t p xs among = go xs among.0 among.1 among.2
+  where
+    go : (xs : List Stand) (k : ℕ) → k < length xs → slice_index_or xs k (record { thread = t; place = p }) ≡ record { thread = t; place = p } → 1 ≤ times t xs
+    go [] k l e = absurd (omega arith)
+    go (x ∷ xs) zero l e = let here = times_here t x xs (ap (λ (y : Stand). y.thread) e) in omega arith
+    go (x ∷ xs) (suc k) l e = let r = go xs k (omega arith) e in omega arith

@@ -247,6 +247,7 @@ learns_done homes slots id me some_threads s h _ at small =
             omega arith)),
         (let a = g.done_seen in omega arith),
         omega arith,
+        (λ t below. (let one = h.one_seat t (omega arith) in let here = at_le (seats_of t) s.views id v at in omega arith)),
       ),
     )
 

@@ -88,11 +88,12 @@ abbrev pub most_seen : List DeskEnd → ℕ
 most_seen [] = 0
 most_seen (d ∷ ds) = max d.done_seen (most_seen ds)
 
--- these threads have ended, they are as many as all desks have retired, and a desk saw as many retired as there are
+-- these threads have ended, they are as many as all desks have retired, and a desk saw at least as many retired as there
+-- are
 pub record AreEnded (p : Places) (ts : List ThreadEnd) (ds : List DeskEnd) : Type 0 where
   pub ended : All (λ t. t.place ≡ place.Ended) ts
   pub retired : length ts ≡ all_retired ds
-  pub seen : Any (λ d. d.done_seen ≡ p.threads) ds
+  pub seen : Any (λ d. p.threads ≤ d.done_seen) ds
 
 -- all seats of some places: all desks, and all threads, either by their count or since all have ended
 pub record AreAllSeats (ts : List ThreadEnd) (ds : List DeskEnd) : Type 0 where

@@ -158,14 +158,15 @@ Looks step old word new =
     × IsBelow old.0.reactors (place_of word)
     × IsWord word
 
--- a seat with all desks learns that the count is its own; it stands for no more threads than there are, and what it saw
--- of the count is at most the count
+-- a seat with all desks learns that the count is its own; it stands for no more threads than there are, for each at most
+-- once, and what it saw of the count is at most the count
 abbrev pub LearnsDone : Step (Unit {0}) → Sat → ℕ → Sat → Type 0
 LearnsDone step old word new =
     (new ≡ old)
     × (old.0.desks ≡ old.0.reactors → word ≡ old.0.retired)
     × (old.0.done_seen ≤ word)
     × (length old.0.stands ≤ old.0.threads)
+    × ((thread : ℕ) → thread < old.0.threads → times thread old.0.stands ≤ 1)
 
 abbrev pub LearnsHalt : Step (Unit {0}) → Sat → ℕ → Sat → Type 0
 LearnsHalt step old word new = (new ≡ old) × (old.0.desks ≡ old.0.reactors → word ≡ min 1 old.0.halted)

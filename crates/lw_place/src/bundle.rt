@@ -4,7 +4,7 @@
 //! which then knows the words.
 ghost use Rattle.std.specs.Prelude.{◌≡◌, ◌≢◌, ℕ, ◌+◌, ◌-◌, ◌<◌, ◌≤◌, true, false, [], ◌∷◌, length, IfOk};
 ghost use Rattle.lw_place.specs.PlaceWord.{IsBelow};
-ghost use Rattle.lw_place.specs.PlaceTable.{joined, less_first_thread, less_one_desk, StandsAt};
+ghost use Rattle.lw_place.specs.PlaceTable.{joined, less_first_thread, less_one_desk, times, StandsAt};
 ghost use Rattle.lw_place.specs.PlaceSeats.{thread_view, thread_of, places_of, new_desk};
 
 use crate::desk_seat::DeskSeat;
@@ -99,6 +99,7 @@ impl Bundle {
         ensures all { self.old.view.desks ≡ self.old.view.reactors → result ≡ self.old.view.retired }
         ensures seen { self.old.view.done_seen ≤ result }
         ensures few { length self.old.view.stands ≤ self.old.view.threads }
+        ensures once { (t : ℕ) → t < self.old.view.threads → times t self.old.view.stands ≤ 1 }
     {
         self.table.shared.load::<LearningDone>(&mut self.seat, DONE)
     }

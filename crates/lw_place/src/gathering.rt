@@ -1,6 +1,6 @@
 //! What is known of the places once all seats are in one hand.
 ghost use Rattle.std.specs.Prelude.{◌≡◌, ℕ, ◌+◌, ◌<◌, ◌≤◌, true, false, [], ◌++◌, length, map, slice_index_or, All, IfOk};
-ghost use Rattle.lw_place.specs.PlaceTable.{StandsAt};
+ghost use Rattle.lw_place.specs.PlaceTable.{times, StandsAt};
 ghost use Rattle.lw_place.specs.PlaceSeats.{AreAllSeats, all_retired, all_halted, most_seen, stand, Places, places_of, Holds};
 
 use crate::bundle::Bundle;
@@ -24,8 +24,9 @@ pub struct Whole {
 /// Gathers all seats of some places, and reads the words.
 ///
 /// All desks are handed in, and all threads: as many as were made; or ended ones, as many as the desks retired, where a
-/// desk saw as many retired as there are threads. The order of the seats does not matter. Each thread stands where its
-/// seat says. Without memory the seats are dropped.
+/// desk saw at least as many retired as there are threads. The order of the seats does not matter. There are as many seats
+/// of threads as threads were made, each thread's once, and each thread stands where its seat says. Without memory the
+/// seats are dropped.
 pub fn gather(
     alloc: Global,
     threads: Vec<ThreadSeat>,
@@ -34,6 +35,10 @@ pub fn gather(
     requires { AreAllSeats threads.items desks.items }
     ensures count { IfOk result (λ w.
         All (λ d. length w.places.items ≡ d.places.threads) desks.items) }
+    ensures seats { IfOk result (λ _.
+        All (λ d. length threads.items ≡ d.places.threads) desks.items) }
+    ensures once { IfOk result (λ w. (t : ℕ) → t < length w.places.items →
+        times t (map stand threads.items) ≡ 1) }
     ensures places { IfOk result (λ w. (t : ℕ) (d : Place) → t < length w.places.items →
         StandsAt (map stand threads.items) t (slice_index_or w.places.items t d)) }
     ensures ended { IfOk result (λ w. All (λ t. t.place ≡ Place.Ended) threads.items →

@@ -10,8 +10,6 @@ mod gathering;
 mod making;
 mod place;
 mod table;
-#[cfg(test)]
-mod tests;
 mod thread_seat;
 
 pub use desk_seat::DeskSeat;

@@ -1,5 +1,6 @@
 -- The letters of each sender, and how many they are together.
-use Rattle.std.proofs.Common.{◌≡◌, ◌≢◌, ℕ, zero, suc, ◌+◌, ◌*◌, ◌<◌, ◌≤◌, Bool, eqb, eq-eqb, ne_eqb, List, [], ◌∷◌, ◌++◌, length, if◌then◌else◌, refl, sym, ap, ◌∙◌, subst, arith}
+use Rattle.std.proofs.Common.{◌≡◌, ◌≢◌, ℕ, zero, suc, ◌+◌, ◌*◌, ◌<◌, ◌≤◌, Bool, eqb, eq-eqb, ne_eqb, List, [], ◌∷◌, ◌++◌, map, length, All, if◌then◌else◌, refl, sym, ap, ◌∙◌, subst, arith}
+use Rattle.std.proofs.lemmas.List.Elements.{All-nil, All-cons, All-head, All-tail}
 use mathlib.Core.Logic.{dite}
 use native.Mathlib.Decide.{ℕ_discrete, dec_le}
 use Rattle.lw_base.specs.declared.message.Tag.{Tag}
@@ -23,6 +24,33 @@ module _ {L : Type 0} (tag_of : L → Tag) where
   sent_by-append p (x ∷ xs) ys = dite (ℕ_discrete ((tag_of x).sender) p)
       (λ e. sent_by-yes p x (xs ++ ys) e ∙ ap (λ l. x ∷ l) (sent_by-append p xs ys) ∙ ap (λ l. l ++ sent_by tag_of p ys) (sym (sent_by-yes p x xs e)))
       (λ n. sent_by-no p x (xs ++ ys) n ∙ sent_by-append p xs ys ∙ ap (λ l. l ++ sent_by tag_of p ys) (sym (sent_by-no p x xs n)))
+
+-- P holds of the elements of each part of a list
+pub All-front : {X : Type 0} (P : X → Type 0) (xs ys : List X) → All P (xs ++ ys) → All P xs
+All-front P [] ys h = All-nil P
+All-front P (x ∷ xs) ys h = All-cons P x xs (All-head P x (xs ++ ys) h) (All-front P xs ys (All-tail P x (xs ++ ys) h))
+
+pub All-back : {X : Type 0} (P : X → Type 0) (xs ys : List X) → All P (xs ++ ys) → All P ys
+All-back P [] ys h = h
+All-back P (x ∷ xs) ys h = All-back P xs ys (All-tail P x (xs ++ ys) h)
+
+module _ {T L : Type 0} (letter : T → L) (tag_of : L → Tag) where
+  -- the letters of messages that are all of one sender, as that sender's and as another's
+  pub sent_by-mine : (p : ℕ) (xs : List T) → All (λ x. (tag_of (letter x)).sender ≡ p) xs → sent_by tag_of p (map letter xs) ≡ map letter xs
+  sent_by-mine p [] h = refl
+  sent_by-mine p (x ∷ xs) h = sent_by-yes tag_of p (letter x) (map letter xs) (All-head (λ y. (tag_of (letter y)).sender ≡ p) x xs h) ∙ ap (λ l. letter x ∷ l) (sent_by-mine p xs (All-tail (λ y. (tag_of (letter y)).sender ≡ p) x xs h))
+
+  pub sent_by-others : (p k : ℕ) (xs : List T) → p ≢ k → All (λ x. (tag_of (letter x)).sender ≡ k) xs → sent_by tag_of p (map letter xs) ≡ []
+  sent_by-others p k [] n h = refl
+  sent_by-others p k (x ∷ xs) n h = sent_by-no tag_of p (letter x) (map letter xs) (λ e. n (sym e ∙ All-head (λ y. (tag_of (letter y)).sender ≡ k) x xs h)) ∙ sent_by-others p k xs n (All-tail (λ y. (tag_of (letter y)).sender ≡ k) x xs h)
+
+  -- where no sender from n on has any of them, all are of senders below n
+  pub senders_below : (n : ℕ) (xs : List T) → ((p : ℕ) → n ≤ p → sent_by tag_of p (map letter xs) ≡ []) → All (λ x. (tag_of (letter x)).sender < n) xs
+  senders_below n [] h = All-nil (λ x. (tag_of (letter x)).sender < n)
+  senders_below n (x ∷ xs) h =
+      let q : ℕ = (tag_of (letter x)).sender in
+      let known : q < n = dite (dec_le n q) (λ le. absurd (let e = sym (sent_by-yes tag_of q (letter x) (map letter xs) refl) ∙ h q le in cc)) (λ nle. omega arith) in
+      All-cons (λ y. (tag_of (letter y)).sender < n) x xs known (senders_below n xs (λ p le. sym (sent_by-no tag_of p (letter x) (map letter xs) (λ e. omega arith)) ∙ h p le))
 
 -- f 0 + .. + f (n - 1)
 pub below : ℕ → (ℕ → ℕ) → ℕ

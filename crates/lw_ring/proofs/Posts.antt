@@ -1,7 +1,7 @@
 -- Each kind of step keeps the rule of the queue.
-use Rattle.std.proofs.Common.{◌≡◌, ◌≢◌, ◌⊎◌, inl, inr, ℕ, zero, suc, ◌<◌, ◌≤◌, true, false, true≢false, eqb, List, [], ◌∷◌, ◌++◌, map, length, set, Option, if◌then◌else◌, refl, sym, ap, ◌∙◌, subst, ⊎_elim, arith, append_assoc, length-append, length-set}
-use Rattle.std.proofs.lemmas.List.{append-nil, map-append}
-use Rattle.std.proofs.lemmas.List.Elements.{All-nil, All-cons, All-head, All-tail, All-append}
+use Rattle.std.proofs.Common.{◌≡◌, ◌≢◌, ◌⊎◌, inl, inr, ℕ, zero, suc, ◌+◌, ◌<◌, ◌≤◌, true, false, true≢false, eqb, List, [], ◌∷◌, ◌++◌, map, length, set, Option, if◌then◌else◌, refl, sym, ap, ◌∙◌, subst, ⊎_elim, arith, append_assoc, length-append, length-set, get_or, All}
+use Rattle.std.proofs.lemmas.List.{append-nil, map-append, length-map}
+use Rattle.std.proofs.lemmas.List.Elements.{All-nil, All-append}
 use mathlib.Core.Option.{some, some-injective, some-ne-none}
 use mathlib.Core.Logic.{dite}
 use native.Mathlib.Decide.{ℕ_discrete, dec_le}
@@ -11,8 +11,9 @@ use Rattle.crossbeam_queue.proofs.Lists.{at_set}
 use Rattle.lw_base.specs.declared.message.Tag.{Tag}
 use Rattle.lw_ring.specs.declared.queue.PassView.{PassView}
 use Rattle.lw_base.specs.Letters.{sent_by, list_at, FitsRing}
-use Rattle.lw_ring.specs.Queue.{fresh, spent, receiver, one_more, the_next, with_sender, with_put, with_got, Facts, FitsView, Posted, Delivers, Sends, Takes, Saw}
-use Rattle.lw_ring.proofs.Counts.{choose_yes, choose_no, sent_by-yes, sent_by-no, sent_by-append, below, below_at_most, below_same, counted}
+use Rattle.lw_ring.specs.declared.parcel.Parcel.{Parcel}
+use Rattle.lw_ring.specs.Queue.{most_sent, most_senders, above_all_sent, contents, unpacked, fresh, spent, receiver, one_more, the_next, with_sender, with_put, with_got, Facts, FitsView, Posted, Keeps, Delivers, AllFit, Sends, Takes, Saw}
+use Rattle.lw_ring.proofs.Counts.{choose_yes, choose_no, sent_by-no, sent_by-yes, sent_by-append, sent_by-mine, sent_by-others, senders_below, All-front, All-back, below, below_at_most, below_same, counted}
 
 off : {X : Type 0} → false ≡ true → X
 off {X} e = absurd (true≢false (sym e))
@@ -40,13 +41,13 @@ but_else : {X : Type 0} (f : ℕ → X) (k : ℕ) (x : X) (p : ℕ) → p ≢ k 
 unfolding but
 but_else {X} f k x p n = choose_no p k x (f p) n
 
-at_last : {L : Type 0} (xs : List (List L)) (y : List L) (k : ℕ) → k ≡ length xs → list_at (xs ++ y ∷ []) k ≡ y
+pub at_last : {L : Type 0} (xs : List (List L)) (y : List L) (k : ℕ) → k ≡ length xs → list_at (xs ++ y ∷ []) k ≡ y
 at_last [] y zero e = refl
 at_last [] y (suc k) e = absurd (omega arith)
 at_last (x ∷ xs) y zero e = absurd (omega arith)
 at_last (x ∷ xs) y (suc k) e = at_last xs y k (omega arith)
 
-at_front : {L : Type 0} (xs : List (List L)) (y : List L) (k : ℕ) → k < length xs → list_at (xs ++ y ∷ []) k ≡ list_at xs k
+pub at_front : {L : Type 0} (xs : List (List L)) (y : List L) (k : ℕ) → k < length xs → list_at (xs ++ y ∷ []) k ≡ list_at xs k
 at_front [] y k l = absurd (omega arith)
 at_front (x ∷ xs) y zero l = refl
 at_front (x ∷ xs) y (suc k) l = at_front xs y k (omega arith)
@@ -56,12 +57,20 @@ at_past [] k l = refl
 at_past (x ∷ xs) zero l = absurd (omega arith)
 at_past (x ∷ xs) (suc k) l = at_past xs k (omega arith)
 
+no_letters : {X : Type 0} (xs : List X) → length xs ≡ 0 → xs ≡ []
+no_letters [] e = refl
+no_letters (x ∷ xs) e = absurd (omega arith)
+
 module _ {T L F : Type 0} (letter : T → L) (tag_of : L → Tag) (fits : ℕ → F → T → Type 0) where
   abbrev V : Type 0
   V = PassView L F
 
   abbrev H : List T → List V → Type 0
-  H = Delivers letter tag_of fits
+  H = Keeps letter tag_of fits
+
+  -- the same over parcels
+  abbrev D : List (Parcel T) → List V → Type 0
+  D = Delivers letter tag_of fits
 
   abbrev P : List T → List V → Type 0
   P = Posted letter tag_of fits
@@ -78,7 +87,7 @@ module _ {T L F : Type 0} (letter : T → L) (tag_of : L → Tag) (fits : ℕ �
       only zero e = true≢false (ap (λ (w : V). w.fresh) (some-injective fresh v e) ∙ old)
       only (suc j) e = some-ne-none v (sym e)
 
-  pub begins : H [] (fresh ∷ [])
+  pub begins : D [] (fresh ∷ [])
   begins = inl (refl, refl)
 
   all_set : (f : Facts L F) (views : List V) (i : ℕ) (w : V) → FitsView f i w → ((j : ℕ) (u : V) → j ≢ i → get_elem? views j ≡ some u → FitsView f j u) → (j : ℕ) (u : V) → get_elem? (set views i w) j ≡ some u → FitsView f j u
@@ -108,17 +117,17 @@ module _ {T L F : Type 0} (letter : T → L) (tag_of : L → Tag) (fits : ℕ �
       fit (suc zero) v e = subst (FitsView (record { reader = 0; seat = λ _. 0; sent = λ _. []; got = []; number = number; family = family }) 1) (some-injective _ v e) (refl, (λ s. off s), (λ g. off g))
       fit (suc (suc i)) v e = absurd (some-ne-none v (sym e))
 
-  pub founds : (pass : ℕ) (v : V) (number : ℕ) (family : Option F) → v ≡ fresh → Forks H pass v (receiver number family 0) spent
-  founds pass v number family is items views (inr h) here = absurd (true≢false (sym (ap (λ (w : V). w.fresh) is) ∙ (h.each pass v here).0))
-  founds pass v number family is items views (inl u) here = inr (subst (λ (y : List T × List V). P y.0 (set y.1 pass (receiver number family 0) ++ spent ∷ [])) (λ i. (sym u.0 i, sym u.1 i)) (go pass (ap (λ l. get_elem? l pass) (sym u.1) ∙ here)))
+  founding : (pass : ℕ) (v : V) (number : ℕ) (family : Option F) → v ≡ fresh → Forks H pass v (receiver number family 0) spent
+  founding pass v number family is items views (inr h) here = absurd (true≢false (sym (ap (λ (w : V). w.fresh) is) ∙ (h.each pass v here).0))
+  founding pass v number family is items views (inl u) here = inr (subst (λ (y : List T × List V). P y.0 (set y.1 pass (receiver number family 0) ++ spent ∷ [])) (λ i. (sym u.0 i, sym u.1 i)) (go pass (ap (λ l. get_elem? l pass) (sym u.1) ∙ here)))
     where
       go : (j : ℕ) → get_elem? (fresh {L = L} {F = F} ∷ []) j ≡ some v → P [] (set (fresh ∷ []) j (receiver number family 0) ++ spent ∷ [])
       go zero e = founded number family
       go (suc j) e = absurd (some-ne-none v (sym e))
 
   -- one more sender
-  pub deals : (pass : ℕ) (v : V) → v.fresh ≡ false → v.gets ≡ true → v.made < 127 → Forks H pass v (one_more v) (the_next v)
-  deals pass v old gets room items views h0 here =
+  dealing : (pass : ℕ) (v : V) → v.fresh ≡ false → v.gets ≡ true → v.made < 127 → Forks H pass v (one_more v) (the_next v)
+  dealing pass v old gets room items views h0 here =
       let h = made items views pass v h0 here old in
       let f = h.facts in
       let mine = (h.each pass v here).2 gets in
@@ -165,90 +174,90 @@ module _ {T L F : Type 0} (letter : T → L) (tag_of : L → Tag) (fits : ℕ �
         each = λ j u e. ⊎_elim (λ was. all_set g views pass w w_fits others j u was) (λ (t : (j ≡ length vs) × (the_next v ≡ u)). subst (λ (y : ℕ × V). FitsView g y.0 y.1) (λ i. (sym t.0 i, t.1 i)) next) (at_end vs (the_next v) u j e);
       })
 
-  -- a value goes to the back
-  pub posts : (n pass : ℕ) (v : V) (x : T) → v.fresh ≡ false → v.sends ≡ true → (tag_of (letter x)).sender ≡ v.from → FR v.number v.family x → length v.put < 1099511627776
-      → Pushes H n pass v x (Sends letter v x)
-  posts n pass v x old sends names fit room items views _ h0 here =
+  -- messages go to the back
+  posting : (pass : ℕ) (v : V) (xs : List T) → v.fresh ≡ false → v.sends ≡ true → All (λ x. (tag_of (letter x)).sender ≡ v.from) xs → All (FR v.number v.family) xs → length v.put + length xs ≤ most_sent
+      → (items : List T) (views : List V) → H items views → get_elem? views pass ≡ some v → H (items ++ xs) (set views pass (with_put v (map letter xs)))
+  posting pass v xs old sends names fit room items views h0 here =
       let h = made items views pass v h0 here old in
       let f = h.facts in
       let mine = (h.each pass v here).1 sends in
-      let l : L = letter x in
-      let w : V = with_put v l in
+      let ls : List L = map letter xs in
+      let w : V = with_put v ls in
       let k : ℕ = v.from in
-      let more : List L = f.sent k ++ l ∷ [] in
+      let more : List L = f.sent k ++ ls in
       let g : Facts L F = record f { sent = but f.sent k more } in
       let here_now : (p : ℕ) → p ≡ k → g.sent p ≡ more = but_here f.sent k more in
       let as_was : (p : ℕ) → p ≢ k → g.sent p ≡ f.sent p = but_else f.sent k more in
       let whole : List L = f.got ++ map letter items in
-      let longer : (p : ℕ) → sent_by tag_of p (f.got ++ map letter (items ++ x ∷ [])) ≡ f.sent p ++ sent_by tag_of p (l ∷ []) = λ p.
-      ap (λ ls. sent_by tag_of p (f.got ++ ls)) (map-append letter items (x ∷ [])) ∙ ap (sent_by tag_of p) (sym (append_assoc f.got (map letter items) (l ∷ []))) ∙ sent_by-append tag_of p whole (l ∷ []) ∙ ap (λ ls. ls ++ sent_by tag_of p (l ∷ [])) (h.delivered p) in
-      let fit_f : FR f.number f.family x = subst (λ (y : ℕ × Option F). FR y.0 y.1 x) (λ i. (mine.number i, mine.family i)) fit in
-      let size = ap length mine.put in (
-        w,
-        inr (record {
-          facts = g;
-          delivered = λ p. dite (ℕ_discrete p k)
-              (λ e. longer p ∙ ap (λ ls. f.sent p ++ ls) (sent_by-yes tag_of p l [] (names ∙ sym e)) ∙ ap (λ q. f.sent q ++ l ∷ []) e ∙ sym (here_now p e))
-              (λ n. longer p ∙ ap (λ ls. f.sent p ++ ls) (sent_by-no tag_of p l [] (λ e. n (sym e ∙ names))) ∙ append-nil (f.sent p) ∙ sym (as_was p n));
-          short = λ p. dite (ℕ_discrete p k)
-              (λ e. subst (λ ls. length ls ≤ 1099511627776) (sym (here_now p e)) (let len = length-append (f.sent k) (l ∷ []) in omega arith))
-              (λ n. subst (λ ls. length ls ≤ 1099511627776) (sym (as_was p n)) (h.short p));
-          fitting = All-append (FR f.number f.family) items (x ∷ []) h.fitting (All-cons (FR f.number f.family) x [] fit_f (All-nil (FR f.number f.family)));
-          each = all_set g views pass w (
-            old,
-            (λ _. record { its_seat = mine.its_seat; apart = mine.apart; put = ap (λ ls. ls ++ l ∷ []) mine.put ∙ sym (here_now k refl); number = mine.number; family = mine.family }),
-            (λ s. off (sym ((h.each pass v here).2 s).alone ∙ sends)),
-          )
-              (λ j u apart e. (let o = h.each j u e in (
-                o.0,
-                (λ s. (let q = o.1 s in record { its_seat = q.its_seat; apart = q.apart; put = q.put ∙ sym (as_was u.from (λ same. apart (sym q.its_seat ∙ ap f.seat same ∙ mine.its_seat))); number = q.number; family = q.family })),
-                (λ s. (let q = o.2 s in record {
-                  its_seat = q.its_seat;
-                  alone = q.alone;
-                  got = q.got;
-                  number = q.number;
-                  family = q.family;
-                  later = λ p le. ((q.later p le).0, as_was p (λ same. mine.apart (sym mine.its_seat ∙ ap f.seat (sym same) ∙ (q.later p le).0)) ∙ (q.later p le).1);
-                  known = λ p lt. ((q.known p lt).0, (q.known p lt).1 ∙ sym (as_was p (λ same. mine.apart (sym mine.its_seat ∙ ap f.seat (sym same) ∙ (q.known p lt).0))));
-                  few = q.few;
-                  taken_in = q.taken_in;
-                })),
-              )));
-        }),
-        refl,
-      )
+      let longer : (p : ℕ) → sent_by tag_of p (f.got ++ map letter (items ++ xs)) ≡ f.sent p ++ sent_by tag_of p ls = λ p.
+      ap (λ ys. sent_by tag_of p (f.got ++ ys)) (map-append letter items xs) ∙ ap (sent_by tag_of p) (sym (append_assoc f.got (map letter items) ls)) ∙ sent_by-append tag_of p whole ls ∙ ap (λ ys. ys ++ sent_by tag_of p ls) (h.delivered p) in
+      let fit_f : All (FR f.number f.family) xs = subst (λ (y : ℕ × Option F). All (FR y.0 y.1) xs) (λ i. (mine.number i, mine.family i)) fit in
+      let size = ap length mine.put in
+      inr (record {
+        facts = g;
+        delivered = λ p. dite (ℕ_discrete p k)
+            (λ e. longer p ∙ ap (λ ys. f.sent p ++ ys) (sent_by-mine letter tag_of p xs (subst (λ q. All (λ x. (tag_of (letter x)).sender ≡ q) xs) (sym e) names)) ∙ ap (λ q. f.sent q ++ ls) e ∙ sym (here_now p e))
+            (λ n. longer p ∙ ap (λ ys. f.sent p ++ ys) (sent_by-others letter tag_of p k xs n names) ∙ append-nil (f.sent p) ∙ sym (as_was p n));
+        short = λ p. dite (ℕ_discrete p k)
+            (λ e. subst (λ ys. length ys ≤ most_sent) (sym (here_now p e)) (let len = length-append (f.sent k) ls in let long = length-map xs letter in omega arith))
+            (λ n. subst (λ ys. length ys ≤ most_sent) (sym (as_was p n)) (h.short p));
+        fitting = All-append (FR f.number f.family) items xs h.fitting fit_f;
+        each = all_set g views pass w (
+          old,
+          (λ _. record { its_seat = mine.its_seat; apart = mine.apart; put = ap (λ ys. ys ++ ls) mine.put ∙ sym (here_now k refl); number = mine.number; family = mine.family }),
+          (λ s. off (sym ((h.each pass v here).2 s).alone ∙ sends)),
+        )
+            (λ j u apart e. (let o = h.each j u e in (
+              o.0,
+              (λ s. (let q = o.1 s in record { its_seat = q.its_seat; apart = q.apart; put = q.put ∙ sym (as_was u.from (λ same. apart (sym q.its_seat ∙ ap f.seat same ∙ mine.its_seat))); number = q.number; family = q.family })),
+              (λ s. (let q = o.2 s in record {
+                its_seat = q.its_seat;
+                alone = q.alone;
+                got = q.got;
+                number = q.number;
+                family = q.family;
+                later = λ p le. ((q.later p le).0, as_was p (λ same. mine.apart (sym mine.its_seat ∙ ap f.seat (sym same) ∙ (q.later p le).0)) ∙ (q.later p le).1);
+                known = λ p lt. ((q.known p lt).0, (q.known p lt).1 ∙ sym (as_was p (λ same. mine.apart (sym mine.its_seat ∙ ap f.seat (sym same) ∙ (q.known p lt).0))));
+                few = q.few;
+                taken_in = q.taken_in;
+              })),
+            )));
+      })
 
-  -- a value comes from the front
-  pub takes : (pass : ℕ) (v : V) → v.fresh ≡ false → v.gets ≡ true → Pops H pass v (Takes letter tag_of fits v)
-  takes pass v old gets x items views h0 here =
-      let h = made (x ∷ items) views pass v h0 here old in
+  -- messages come from the front
+  taking : (pass : ℕ) (v : V) (xs : List T) → v.fresh ≡ false → v.gets ≡ true → (items : List T) (views : List V) → H (xs ++ items) views → get_elem? views pass ≡ some v
+      → H items (set views pass (with_got v (map letter xs))) × AllFit letter tag_of fits v.number v.family v.made xs × (length (v.got ++ map letter xs) < above_all_sent)
+  taking pass v xs old gets items views h0 here =
+      let h = made (xs ++ items) views pass v h0 here old in
       let f = h.facts in
       let mine = (h.each pass v here).2 gets in
-      let l : L = letter x in
-      let w : V = with_got v l in
-      let g : Facts L F = record f { got = f.got ++ l ∷ [] } in
-      let whole : List L = f.got ++ map letter (x ∷ items) in
-      let fit : FR f.number f.family x = All-head (FR f.number f.family) x items h.fitting in
-      let known : (tag_of l).sender < v.made = dite (dec_le v.made ((tag_of l).sender))
-      (λ le. absurd (let e = ap length (sym (sent_by-append tag_of ((tag_of l).sender) f.got (l ∷ map letter items)) ∙ h.delivered ((tag_of l).sender) ∙ (mine.later ((tag_of l).sender) le).1) in let y = ap length (sent_by-yes tag_of ((tag_of l).sender) l (map letter items) refl) in
-      let z = length-append (sent_by tag_of ((tag_of l).sender) f.got) (sent_by tag_of ((tag_of l).sender) (l ∷ map letter items)) in omega arith))
-      (λ nle. omega arith) in
+      let ls : List L = map letter xs in
+      let w : V = with_got v ls in
+      let g : Facts L F = record f { got = f.got ++ ls } in
+      let whole : List L = f.got ++ map letter (xs ++ items) in
+      let split : whole ≡ (f.got ++ ls) ++ map letter items = ap (λ ys. f.got ++ ys) (map-append letter xs items) ∙ sym (append_assoc f.got ls (map letter items)) in
+      let fit : All (FR f.number f.family) xs = All-front (FR f.number f.family) xs items h.fitting in
+      let none : (p : ℕ) → v.made ≤ p → sent_by tag_of p ls ≡ [] = λ p le. no_letters (sent_by tag_of p ls)
+      (let e = ap length (sym (ap (sent_by tag_of p) split) ∙ h.delivered p ∙ (mine.later p le).1) in
+      let a = ap length (sent_by-append tag_of p (f.got ++ ls) (map letter items)) in
+      let b = ap length (sent_by-append tag_of p f.got ls) in
+      let c = length-append (sent_by tag_of p (f.got ++ ls)) (sent_by tag_of p (map letter items)) in
+      let d = length-append (sent_by tag_of p f.got) (sent_by tag_of p ls) in omega arith) in
+      let known : All (λ x. (tag_of (letter x)).sender < v.made) xs = senders_below letter tag_of v.made xs none in
       let size = counted tag_of v.made whole (λ p le. h.delivered p ∙ (mine.later p le).1) in
-      let most = below_at_most v.made (λ p. length (sent_by tag_of p whole)) (λ p. subst (λ ls. length ls ≤ 1099511627776) (sym (h.delivered p)) (h.short p)) in
-      let front = length-append f.got (map letter (x ∷ items)) in
-      let back = length-append v.got (l ∷ []) in
-      let same = ap length mine.got in
+      let most = below_at_most v.made (λ p. length (sent_by tag_of p whole)) (λ p. subst (λ ys. length ys ≤ most_sent) (sym (h.delivered p)) (h.short p)) in
+      let front = ap length split ∙ length-append (f.got ++ ls) (map letter items) in
+      let same = ap (λ ys. length (ys ++ ls)) mine.got in
       let few = mine.few in (
-        w,
         inr (record {
           facts = g;
-          delivered = λ p. ap (sent_by tag_of p) (append_assoc f.got (l ∷ []) (map letter items)) ∙ h.delivered p;
+          delivered = λ p. ap (sent_by tag_of p) (sym split) ∙ h.delivered p;
           short = h.short;
-          fitting = All-tail (FR f.number f.family) x items h.fitting;
+          fitting = All-back (FR f.number f.family) xs items h.fitting;
           each = all_set g views pass w (
             old,
             (λ s. off (sym mine.alone ∙ s)),
-            (λ _. record { its_seat = mine.its_seat; alone = mine.alone; got = ap (λ ls. ls ++ l ∷ []) mine.got; number = mine.number; family = mine.family; later = mine.later; known = mine.known; few = mine.few; taken_in = mine.taken_in }),
+            (λ _. record { its_seat = mine.its_seat; alone = mine.alone; got = ap (λ ys. ys ++ ls) mine.got; number = mine.number; family = mine.family; later = mine.later; known = mine.known; few = mine.few; taken_in = mine.taken_in }),
           )
               (λ j u apart e. (let o = h.each j u e in (
                 o.0,
@@ -256,12 +265,13 @@ module _ {T L F : Type 0} (letter : T → L) (tag_of : L → Tag) (fits : ℕ �
                 (λ s. absurd (apart ((o.2 s).its_seat ∙ sym mine.its_seat))),
               )));
         }),
-        (refl, subst (λ (y : ℕ × Option F). FR y.0 y.1 x) (λ i. (sym mine.number i, sym mine.family i)) fit, known, omega arith),
+        (λ k d l. (subst (λ (y : ℕ × Option F). FR y.0 y.1 (get_or xs k d)) (λ i. (sym mine.number i, sym mine.family i)) (fit k d l), known k d l)),
+        omega arith,
       )
 
   -- the receiver takes in the next sender
-  pub gathers : (pass : ℕ) (v : V) (other : ℕ) (u : V) → v.fresh ≡ false → v.gets ≡ true → u.sends ≡ true → u.from ≡ length v.known → Merges H pass v other u (with_sender v u) spent
-  gathers pass v other u old gets sends next items views h0 here apart there =
+  joining : (pass : ℕ) (v : V) (other : ℕ) (u : V) → v.fresh ≡ false → v.gets ≡ true → u.sends ≡ true → u.from ≡ length v.known → Merges H pass v other u (with_sender v u) spent
+  joining pass v other u old gets sends next items views h0 here apart there =
       let h = made items views pass v h0 here old in
       let f = h.facts in
       let mine = (h.each pass v here).2 gets in
@@ -306,7 +316,35 @@ module _ {T L F : Type 0} (letter : T → L) (tag_of : L → Tag) (fits : ℕ �
         each = all_set g vs other spent (refl, (λ s. off s), (λ s. off s)) middle;
       })
 
-  pub sees : (pass : ℕ) (v : V) → Learns H pass v (Saw letter tag_of fits v)
+  -- The steps on parcels.
+
+  unpacked-push : (parcels : List (Parcel T)) (x : Parcel T) → unpacked (parcels ++ x ∷ []) ≡ unpacked parcels ++ contents x
+  unpacked-push [] x = append-nil (contents x)
+  unpacked-push (y ∷ ys) x = ap (λ l. contents y ++ l) (unpacked-push ys x) ∙ sym (append_assoc (contents y) (unpacked ys) (contents x))
+
+  pub gathers : (pass : ℕ) (v : V) (other : ℕ) (u : V) → v.fresh ≡ false → v.gets ≡ true → u.sends ≡ true → u.from ≡ length v.known → Merges D pass v other u (with_sender v u) spent
+  gathers pass v other u old gets sends next parcels views h here apart there = joining pass v other u old gets sends next (unpacked parcels) views h here apart there
+
+  pub founds : (pass : ℕ) (v : V) (number : ℕ) (family : Option F) → v ≡ fresh → Forks D pass v (receiver number family 0) spent
+  founds pass v number family is parcels views h here = founding pass v number family is (unpacked parcels) views h here
+
+  pub deals : (pass : ℕ) (v : V) → v.fresh ≡ false → v.gets ≡ true → v.made < most_senders → Forks D pass v (one_more v) (the_next v)
+  deals pass v old gets room parcels views h here = dealing pass v old gets room (unpacked parcels) views h here
+
+  pub posts : (n pass : ℕ) (v : V) (x : Parcel T) → v.fresh ≡ false → v.sends ≡ true → All (λ y. (tag_of (letter y)).sender ≡ v.from) (contents x) → All (FR v.number v.family) (contents x) → length v.put + length (contents x) ≤ most_sent
+      → Pushes D n pass v x (Sends letter v x)
+  posts n pass v x old sends names fit room parcels views _ h here = (
+    with_put v (map letter (contents x)),
+    subst (λ ys. H ys (set views pass (with_put v (map letter (contents x))))) (sym (unpacked-push parcels x)) (posting pass v (contents x) old sends names fit room (unpacked parcels) views h here),
+    refl,
+  )
+
+  pub takes : (pass : ℕ) (v : V) → v.fresh ≡ false → v.gets ≡ true → Pops D pass v (Takes letter tag_of fits v)
+  takes pass v old gets x parcels views h here =
+      let t = taking pass v (contents x) old gets (unpacked parcels) views h here in
+      (with_got v (map letter (contents x)), t.0, (refl, t.1, t.2))
+
+  pub sees : (pass : ℕ) (v : V) → Learns D pass v (Saw letter tag_of fits v)
   sees pass v items views h here = (views, pass, h, here)
 
   -- with all senders taken in and nothing left, what was taken of each is what it sent

@@ -1,23 +1,27 @@
 -- What the calls of the ends say.
-use Rattle.std.specs.Prelude.{◌≡◌, ℕ, ◌+◌, ◌<◌, List, [], length, All, Option, IsSome, true, false}
+use Rattle.std.specs.Prelude.{◌≡◌, ℕ, ◌+◌, ◌<◌, ◌≤◌, List, [], ◌++◌, IsSome, true, false, length, slice_index_or}
 use Rattle.lw_base.specs.declared.message.Tag.{Tag}
-use Rattle.lw_base.specs.Letters.{FitsRing}
+use Rattle.lw_base.specs.Letters.{Names}
 use Rattle.lw_ring.specs.declared.ends.SendRefusal.{SendRefusal}
 use Rattle.lw_ring.specs.declared.ends.SendRefusal.TheVariants.{Spent, Exited, NoMemory}
 use Rattle.lw_ring.specs.Ends.{Sender, Receiver}
-use Rattle.lw_ring.specs.Queue.{Saw}
+use Rattle.lw_ring.specs.Queue.{Saw, most_sent}
 
--- what a refused send hands back, why it was refused, and what it leaves
-abbrev pub AfterRefusal : {T L F : Type 0} → SendRefusal T → T → Sender L F → Sender L F → Type 0
-AfterRefusal (Spent x) value old new = (x ≡ value) × (length old.sent ≡ 1099511627776) × (new ≡ old)
-AfterRefusal (Exited x) value old new = (x ≡ value) × (length old.sent < 1099511627776) × IsSome old.latch × (new ≡ record old { found = old.found + 1 })
-AfterRefusal (NoMemory x) value old new = (x ≡ value) × (length old.sent < 1099511627776) × (new ≡ old)
+-- the messages name the sender, and the numbers from this one on
+abbrev pub NamedFrom : {T L : Type 0} → (T → L) → (L → Tag) → ℕ → ℕ → List T → Type 0
+NamedFrom {T} letter tag_of sender first xs = (k : ℕ) (d : T) → k < length xs → Names (tag_of (letter (slice_index_or xs k d))) sender (first + k)
+
+-- what a refused send of so many messages hands back, why it was refused, and what it leaves
+abbrev pub AfterRefusal : {X L F : Type 0} → SendRefusal X → X → ℕ → Sender L F → Sender L F → Type 0
+AfterRefusal (Spent x) value count old new = (x ≡ value) × (most_sent < length old.sent + count) × (new ≡ old)
+AfterRefusal (Exited x) value count old new = (x ≡ value) × (length old.sent + count ≤ most_sent) × IsSome old.latch × (new ≡ record old { found = old.found + 1 })
+AfterRefusal (NoMemory x) value count old new = (x ≡ value) × (length old.sent + count ≤ most_sent) × (new ≡ old)
+
+-- what a take gave, and what is in the receiver's hand behind it: what was in hand before, and what then came off the queue
+abbrev pub InTurn : {L : Type 0} → List L → List L → List L → Type 0
+InTurn {L} before given after = (more : List L) × (before ++ more ≡ given ++ after)
 
 module _ {T L F : Type 0} (letter : T → L) (tag_of : L → Tag) (fits : ℕ → F → T → Type 0) where
-  -- each value fits the ring and was sent by one of its senders
-  abbrev pub AllFit : ℕ → Option F → ℕ → List T → Type 0
-  AllFit number family senders xs = All (λ x. FitsRing fits number family x × ((tag_of (letter x)).sender < senders)) xs
-
   -- at one moment nothing waited, while the receiver knew this
   abbrev pub EmptyAt : Receiver L F → Type 0
-  EmptyAt r = Saw letter tag_of fits (record { fresh = false; number = r.number; family = r.family; sends = false; from = 0; put = []; gets = true; made = r.senders; got = r.taken; known = r.known }) []
+  EmptyAt r = Saw letter tag_of fits (record { fresh = false; number = r.number; family = r.family; sends = false; from = 0; put = []; gets = true; made = r.senders; got = r.taken ++ r.hand; known = r.known }) []

@@ -5,6 +5,7 @@ use Rattle.atomic_table.specs.Seated.{TableId}
 use Rattle.crossbeam_queue.specs.SegTies.{SegId}
 use Rattle.lw_latch.specs.RingEnds.{RingEnd}
 use Rattle.lw_ring.specs.declared.queue.PassView.{PassView}
+use Rattle.lw_ring.specs.Queue.{most_senders}
 
 -- a sending end
 pub record Sender (L F : Type 0) : Type 0 where
@@ -28,8 +29,9 @@ pub record Receiver (L F : Type 0) : Type 0 where
   pub number : ℕ
   pub family : Option F
   pub senders : ℕ
-  -- what it has taken
+  -- what it has handed out, and what is in its hand: the rest of a run that it has begun
   pub taken : List L
+  pub hand : List L
   -- whether it has closed the ring (1) or not (0), how often it has tried to in vain, and the word that it found last
   pub closed : ℕ
   pub tries : ℕ
@@ -65,24 +67,38 @@ abbrev pub Outside : Option RingEnd → ℕ → Type 0
 Outside None n = Unit {0}
 Outside (Some e) n = (e.view.inside ≡ 0) × (e.view.finished ≡ n)
 
--- the same of an end that is inside, which found the latch open
+-- the same of an end that is inside
 abbrev pub Inside : Option RingEnd → ℕ → Type 0
 Inside None n = Unit {0}
-Inside (Some e) n = (e.view.inside ≡ 1) × (e.view.found ≡ 0) × (e.view.finished ≡ n)
+Inside (Some e) n = (e.view.inside ≡ 1) × (e.view.finished ≡ n)
 
--- the receiver's latch, where the ring has one: n ends are not taken in, the others have finished `finished`, and where it
--- is closed it was closed at `taken`
+-- the receiver's latch, where the ring has one: so many ends are not taken in, the others have finished so many messages,
+-- and where it is closed it was closed at so many
+pub record IsReceiving (waiting all_finished taken : ℕ) (e : RingEnd) : Type 0 where
+  pub parts : e.view.parts + waiting ≡ most_senders
+  pub finished : e.view.finished ≡ all_finished
+  pub closed_at : e.view.closed ≡ 1 → e.view.count ≡ taken
+
 abbrev pub Receiving : Option RingEnd → ℕ → ℕ → ℕ → Type 0
-Receiving None n finished taken = Unit {0}
-Receiving (Some e) n finished taken = (e.view.parts + n ≡ 127) × (e.view.finished ≡ finished) × (e.view.closed ≡ 1 → e.view.count ≡ taken)
+Receiving None waiting all_finished taken = Unit {0}
+Receiving (Some e) waiting all_finished taken = IsReceiving waiting all_finished taken e
 
--- the pass of a sender with this number, which has sent so many
-abbrev pub SenderView : {L F : Type 0} → PassView L F → ℕ → ℕ → Type 0
-SenderView v from sent = (v.fresh ≡ false) × (v.sends ≡ true) × (v.from ≡ from) × (length v.put ≡ sent)
+-- the pass of the sender with this number, which has sent so many
+pub record SenderView {L F : Type 0} (v : PassView L F) (sender sent : ℕ) : Type 0 where
+  pub not_fresh : v.fresh ≡ false
+  pub sends : v.sends ≡ true
+  pub from : v.from ≡ sender
+  pub size : length v.put ≡ sent
 
--- the receiver's pass, with so many senders made and so many messages taken
-abbrev pub ReceiverView : {L F : Type 0} → PassView L F → ℕ → ℕ → Type 0
-ReceiverView v made taken = (v.fresh ≡ false) × (v.gets ≡ true) × (v.made ≡ made) × (length v.got ≡ taken) × (v.sends ≡ false) × (v.from ≡ 0) × (v.put ≡ [])
+-- the receiver's pass, with so many senders made and so many messages taken off the queue
+pub record ReceiverView {L F : Type 0} (v : PassView L F) (senders got : ℕ) : Type 0 where
+  pub not_fresh : v.fresh ≡ false
+  pub gets : v.gets ≡ true
+  pub made : v.made ≡ senders
+  pub size : length v.got ≡ got
+  pub sends_not : v.sends ≡ false
+  pub from : v.from ≡ 0
+  pub put : v.put ≡ []
 
 -- the end is the k-th of the receiver's ring
 abbrev pub IsEnd : {L F : Type 0} → Receiver L F → ℕ → Sender L F → Type 0
@@ -93,4 +109,4 @@ abbrev pub new_sender : {L F : Type 0} → SegId Global → Option TableId → �
 new_sender queue latch number family k = record { queue = queue; latch = latch; number = number; family = family; sender = k; sent = []; found = 0 }
 
 abbrev pub new_receiver : {L F : Type 0} → SegId Global → Option TableId → ℕ → Option F → ℕ → Receiver L F
-new_receiver queue latch number family senders = record { queue = queue; latch = latch; number = number; family = family; senders = senders; taken = []; closed = 0; tries = 0; seen = 0; known = []; found = 0 }
+new_receiver queue latch number family senders = record { queue = queue; latch = latch; number = number; family = family; senders = senders; taken = []; hand = []; closed = 0; tries = 0; seen = 0; known = []; found = 0 }

@@ -1,10 +1,32 @@
 -- The rule of a ring's queue: of each sender, what was taken and then what waits is what it sent.
-use Rattle.std.specs.Prelude.{◌≡◌, ◌≢◌, ◌⊎◌, ℕ, ◌+◌, ◌^◌, ◌<◌, ◌≤◌, true, false, List, [], ◌∷◌, ◌++◌, map, length, All, Option, None}
+use Rattle.std.specs.Prelude.{◌≡◌, ◌≢◌, ◌⊎◌, ℕ, ◌+◌, ◌<◌, ◌≤◌, true, false, List, [], ◌∷◌, ◌++◌, map, length, All, Option, None}
 use mathlib.Core.Option.{some}
 use lib.ListN.{get_elem?}
 use Rattle.lw_base.specs.declared.message.Tag.{Tag}
 use Rattle.lw_base.specs.Letters.{sent_by, list_at, FitsRing}
 use Rattle.lw_ring.specs.declared.queue.PassView.{PassView}
+use Rattle.lw_ring.specs.declared.parcel.Parcel.{Parcel}
+use Rattle.lw_ring.specs.declared.parcel.Parcel.TheVariants.{One, Run}
+
+-- the most that one end sends, and more than all ends of a ring send together
+abbrev pub most_sent : ℕ
+most_sent = 1099511627776
+
+abbrev pub above_all_sent : ℕ
+above_all_sent = 140737488355328
+
+-- the most senders of a ring
+abbrev pub most_senders : ℕ
+most_senders = 127
+
+-- the messages of a parcel, and of several, oldest first
+abbrev pub contents : {T : Type 0} → Parcel T → List T
+contents (One x) = x ∷ []
+contents (Run xs) = xs.items
+
+abbrev pub unpacked : {T : Type 0} → List (Parcel T) → List T
+unpacked [] = []
+unpacked (x ∷ xs) = contents x ++ unpacked xs
 
 module _ {L F : Type 0} where
   -- the first pass, before the ring is made
@@ -34,12 +56,12 @@ module _ {L F : Type 0} where
   abbrev pub with_sender : PassView L F → PassView L F → PassView L F
   with_sender v w = record v { known = v.known ++ w.put ∷ [] }
 
-  -- with one more letter sent, and with one more taken
-  abbrev pub with_put : PassView L F → L → PassView L F
-  with_put v l = record v { put = v.put ++ l ∷ [] }
+  -- with more letters sent, and with more taken
+  abbrev pub with_put : PassView L F → List L → PassView L F
+  with_put v ls = record v { put = v.put ++ ls }
 
-  abbrev pub with_got : PassView L F → L → PassView L F
-  with_got v l = record v { got = v.got ++ l ∷ [] }
+  abbrev pub with_got : PassView L F → List L → PassView L F
+  with_got v ls = record v { got = v.got ++ ls }
 
 -- the whole of a ring: the receiver's pass, each sender's (the receiver's where there is none), what each has sent, what
 -- was taken, and the ring's number and family
@@ -69,32 +91,48 @@ module _ {L F : Type 0} where
     pub family : v.family ≡ f.family
     pub later : (p : ℕ) → v.made ≤ p → (f.seat p ≡ f.reader) × (f.sent p ≡ [])
     pub known : (k : ℕ) → k < length v.known → (f.seat k ≡ f.reader) × (list_at v.known k ≡ f.sent k)
-    pub few : v.made ≤ 127
+    pub few : v.made ≤ most_senders
     pub taken_in : length v.known ≤ v.made
 
   abbrev pub FitsView : Facts L F → ℕ → PassView L F → Type 0
   FitsView f i v = (v.fresh ≡ false) × (v.sends ≡ true → FitsSender f i v) × (v.gets ≡ true → FitsReceiver f i v)
 
 module _ {T L F : Type 0} (letter : T → L) (tag_of : L → Tag) (fits : ℕ → F → T → Type 0) where
-  -- the rule of a ring that is made, of the values that wait, oldest first, and of the passes' views
+  -- the rule of a ring that is made, of the messages that wait, oldest first, and of the passes' views
   pub record Posted (items : List T) (views : List (PassView L F)) : Type 0 where
     pub facts : Facts L F
     pub delivered : (p : ℕ) → sent_by tag_of p (facts.got ++ map letter items) ≡ facts.sent p
-    pub short : (p : ℕ) → length (facts.sent p) ≤ 1099511627776
+    pub short : (p : ℕ) → length (facts.sent p) ≤ most_sent
     pub fitting : All (FitsRing fits facts.number facts.family) items
     pub each : (i : ℕ) (v : PassView L F) → get_elem? views i ≡ some v → FitsView facts i v
 
-  abbrev pub Delivers : List T → List (PassView L F) → Type 0
-  Delivers items views = ((items ≡ []) × (views ≡ fresh ∷ [])) ⊎ Posted items views
+  abbrev pub Keeps : List T → List (PassView L F) → Type 0
+  Keeps items views = ((items ≡ []) × (views ≡ fresh ∷ [])) ⊎ Posted items views
 
-  -- what a pop tells of the value that it gave
-  abbrev pub Takes : PassView L F → T → PassView L F → Type 0
-  Takes v x w = (w ≡ with_got v (letter x)) × FitsRing fits v.number v.family x × ((tag_of (letter x)).sender < v.made) × (length w.got < 2 ^ 47)
+  -- the rule of the queue, in which the messages stand in parcels
+  abbrev pub Delivers : List (Parcel T) → List (PassView L F) → Type 0
+  Delivers parcels views = Keeps (unpacked parcels) views
 
-  -- at one moment these values waited, and a pass had this view
-  abbrev pub Saw : PassView L F → List T → Type 0
-  Saw v items = (views : List (PassView L F)) × (i : ℕ) × Delivers items views × (get_elem? views i ≡ some v)
+  -- each message fits the ring and was sent by one of its senders
+  abbrev pub AllFit : ℕ → Option F → ℕ → List T → Type 0
+  AllFit number family senders xs = All (λ x. FitsRing fits number family x × ((tag_of (letter x)).sender < senders)) xs
+
+  -- what a pop tells of the parcel that it gave
+  abbrev pub Takes : PassView L F → Parcel T → PassView L F → Type 0
+  Takes v x w = (w ≡ with_got v (map letter (contents x))) × AllFit v.number v.family v.made (contents x) × (length w.got < above_all_sent)
+
+  -- some messages came off the queue, and stand behind those that were at hand
+  pub record TakenOff (v w : PassView L F) (before after : List T) : Type 0 where
+    pub more : List T
+    pub view : w ≡ with_got v (map letter more)
+    pub behind : after ≡ before ++ more
+    pub fitting : AllFit v.number v.family v.made more
+    pub short : length w.got < above_all_sent
+
+  -- at one moment these parcels waited, and a pass had this view
+  abbrev pub Saw : PassView L F → List (Parcel T) → Type 0
+  Saw v parcels = (views : List (PassView L F)) × (i : ℕ) × Delivers parcels views × (get_elem? views i ≡ some v)
 
 -- what a push tells
-abbrev pub Sends : {T L F : Type 0} → (T → L) → PassView L F → T → PassView L F → Type 0
-Sends letter v x w = w ≡ with_put v (letter x)
+abbrev pub Sends : {T L F : Type 0} → (T → L) → PassView L F → Parcel T → PassView L F → Type 0
+Sends letter v x w = w ≡ with_put v (map letter (contents x))

@@ -1,9 +1,12 @@
 //! The sending end of a ring.
-ghost use Rattle.std.specs.Prelude.{◌≡◌, ◌+◌, ◌<◌, [], ◌∷◌, ◌++◌, length, IfErr, OnOk};
+ghost use Rattle.std.specs.Prelude.{◌≡◌, ◌+◌, ◌<◌, ◌≤◌, true, false, [], ◌∷◌, ◌++◌, length, map, All, IfErr, OnOk};
+ghost use Rattle.crossbeam_queue.specs.SegTies.{IsSegPassOf};
 ghost use Rattle.lw_base.specs.Letters.{Names, Numbered, FitsRing};
-ghost use Rattle.lw_ring.specs.Calls.{AfterRefusal};
+ghost use Rattle.lw_ring.specs.Queue.{contents, most_sent, Sends};
+ghost use Rattle.lw_ring.specs.Calls.{AfterRefusal, NamedFrom};
 
 use crate::gate;
+use crate::parcel::Parcel;
 use crate::queue::{Pass, Queue, Sending};
 use lw_base::Tagged;
 use lw_latch::{Enter, LatchSend};
@@ -14,7 +17,7 @@ use std::sync::{Arc, Wait};
 use thiserror::Error;
 
 /// How many messages an end can send: 2^40.
-const MOST: u64 = 1_099_511_627_776;
+const MOST_SENT: u64 = 1_099_511_627_776;
 
 /// The queue that the ends of a ring share.
 pub struct Shared<T: Tagged + Drop> {
@@ -58,6 +61,7 @@ impl<T: Tagged + Drop> Model for SendEnd<T> {
     ghost use Rattle.std.specs.Arc.{arc_value};
     ghost use Rattle.crossbeam_queue.specs.SegTies.{IsSegPassOf};
     ghost use Rattle.lw_base.specs.Letters.{Numbered};
+    ghost use Rattle.lw_ring.specs.Queue.{most_sent};
     ghost use Rattle.lw_ring.specs.Ends.{Sender, latch_id, found_of, Outside, SenderView};
 
     ghost Value = { Sender T.Letter T.Family };
@@ -75,7 +79,7 @@ impl<T: Tagged + Drop> Model for SendEnd<T> {
     ghost invariant = { λ e.
         IsSegPassOf (arc_value e.shared).queue e.pass
         × SenderView e.pass.me.view.client e.sender e.sent
-        × (e.sent ≤ 1099511627776)
+        × (e.sent ≤ most_sent)
         × Outside e.latch e.sent
         × Numbered T.tag_of e.sender e.pass.me.view.client.put };
 }
@@ -88,15 +92,16 @@ impl<T: Tagged + Drop> SendEnd<T> {
         self.sender
     }
 
-    /// How many messages it has sent. Each is named by this end and its place among them.
+    /// How many messages it has sent, at most 2^40. Each is named by this end and its place among them.
     pub fn sent(&self) -> u64
         ensures length { result ≡ length self.now.sent }
+        ensures bound { result ≤ most_sent }
         ensures numbered { Numbered T.tag_of self.now.sender self.now.sent }
     {
         self.sent
     }
 
-    /// Sends a message, which stands last in this end's sent list from then on.
+    /// Sends a message, which stands last in this end's sent list from then on. It takes no memory for itself.
     ///
     /// A refused one comes back, and the sent list stays as it is. It is refused as `Spent` exactly where 2^40 were
     /// sent, and as `Exited` only where this call's own step found the ring's latch closed. The message names this end
@@ -104,30 +109,83 @@ impl<T: Tagged + Drop> SendEnd<T> {
     pub fn send<R: Wait>(&mut self, rt: &R, value: T) -> Result<(), SendRefusal<T>>
         requires names { Names (T.tag_of (T.letter value)) self.old.sender (length self.old.sent) }
         requires fits { FitsRing T.fits self.old.number self.old.family value }
+        ensures same { self.new ≡ record self.old { sent = self.new.sent; found = self.new.found } }
         ensures ok { OnOk result (self.new ≡ record self.old { sent = self.old.sent ++ T.letter value ∷ [] }) }
-        ensures room { OnOk result (length self.old.sent < 1099511627776) }
-        ensures refused { IfErr result (λ r. AfterRefusal r value self.old self.new) }
+        ensures room { OnOk result (length self.old.sent < most_sent) }
+        ensures refused { IfErr result (λ r. AfterRefusal r value 1 self.old self.new) }
     {
-        if self.sent == MOST {
+        if self.sent == MOST_SENT {
             return Err(SendRefusal::Spent(value));
         }
         if gate::enter(&mut self.latch) == Enter::Closed {
             return Err(SendRefusal::Exited(value));
         }
-        match self
-            .shared
-            .queue
-            .push_as::<Sending, R>(rt, &mut self.pass, value)
-        {
+        match push(rt, &self.shared.queue, &mut self.pass, Parcel::One(value)) {
             Ok(()) => {
-                gate::finish(&mut self.latch);
+                gate::finish(&mut self.latch, 1);
                 self.sent += 1;
                 Ok(())
             }
-            Err(value) => {
+            Err(Parcel::One(value)) => {
                 gate::cancel(&mut self.latch);
                 Err(SendRefusal::NoMemory(value))
             }
+            Err(Parcel::Run(_)) => unreachable!(),
         }
     }
+
+    /// Sends a run: several messages, one at least, in one push, with one step into the latch and one out of it. They
+    /// stand last in this end's sent list from then on, in their order. The vector travels with them, to the receiver's
+    /// `spare`.
+    ///
+    /// A refused run comes back whole, for the reasons of `send`: as `Spent` exactly where more than 2^40 messages would
+    /// be sent. The messages name this end and the numbers that come next, and each fits the ring.
+    pub fn send_run<R: Wait>(&mut self, rt: &R, run: Vec<T>) -> Result<(), SendRefusal<Vec<T>>>
+        requires some { 1 ≤ length run.items }
+        requires names { NamedFrom T.letter T.tag_of self.old.sender (length self.old.sent) run.items }
+        requires fits { All (FitsRing T.fits self.old.number self.old.family) run.items }
+        ensures same { self.new ≡ record self.old { sent = self.new.sent; found = self.new.found } }
+        ensures ok { OnOk result (self.new ≡ record self.old { sent = self.old.sent ++ map T.letter run.items }) }
+        ensures room { OnOk result (length self.old.sent + length run.items ≤ most_sent) }
+        ensures refused { IfErr result (λ r. AfterRefusal r run (length run.items) self.old self.new) }
+    {
+        let count = run.len() as u64;
+        if count > MOST_SENT - self.sent {
+            return Err(SendRefusal::Spent(run));
+        }
+        if gate::enter(&mut self.latch) == Enter::Closed {
+            return Err(SendRefusal::Exited(run));
+        }
+        match push(rt, &self.shared.queue, &mut self.pass, Parcel::Run(run)) {
+            Ok(()) => {
+                gate::finish(&mut self.latch, count);
+                self.sent += count;
+                Ok(())
+            }
+            Err(Parcel::Run(run)) => {
+                gate::cancel(&mut self.latch);
+                Err(SendRefusal::NoMemory(run))
+            }
+            Err(Parcel::One(_)) => unreachable!(),
+        }
+    }
+}
+
+// A parcel goes to the back of the queue.
+fn push<T: Tagged + Drop, R: Wait>(
+    rt: &R,
+    queue: &Queue<T>,
+    pass: &mut Pass<T>,
+    parcel: Parcel<T>,
+) -> Result<(), Parcel<T>>
+    requires queue { IsSegPassOf queue.now pass.old }
+    requires sender { (pass.old.me.view.client.fresh ≡ false) × (pass.old.me.view.client.sends ≡ true) }
+    requires names { All (λ x. (T.tag_of (T.letter x)).sender ≡ pass.old.me.view.client.from) (contents parcel) }
+    requires fits { All (FitsRing T.fits pass.old.me.view.client.number pass.old.me.view.client.family) (contents parcel) }
+    requires room { length pass.old.me.view.client.put + length (contents parcel) ≤ most_sent }
+    ensures queue { IsSegPassOf queue.now pass.new }
+    ensures ok { OnOk result (Sends T.letter pass.old.me.view.client parcel pass.new.me.view.client) }
+    ensures refused { IfErr result (λ x. (x ≡ parcel) × (pass.new.me.view.client ≡ pass.old.me.view.client)) }
+{
+    queue.push_as::<Sending, R>(rt, pass, parcel)
 }

@@ -1,5 +1,6 @@
 //! A ring's latch, where it has one. Where it has none, everybody is let in and nothing is counted.
 ghost use Rattle.std.specs.Prelude.{◌≡◌, ℕ, ◌+◌, ◌<◌, ◌≤◌, ◌≢◌, ◌*◌, ◌^◌, IsSome};
+ghost use Rattle.lw_ring.specs.Queue.{most_sent, above_all_sent};
 ghost use Rattle.lw_ring.specs.Ends.{latch_id, found_of, closed_of, tries_of, seen_of, Outside, Inside, Receiving};
 
 use lw_latch::{Closing, Enter, LatchRecv, LatchSend};
@@ -21,15 +22,15 @@ pub fn enter(latch: &mut Option<LatchSend>) -> Enter
     }
 }
 
-/// Lets it out with one more message finished.
-pub fn finish(latch: &mut Option<LatchSend>)
-    requires { (n : ℕ) × Inside latch.old n × (n < 1099511627776) }
+/// Lets it out with `count` more messages finished.
+pub fn finish(latch: &mut Option<LatchSend>, count: u64)
+    requires { (n : ℕ) × Inside latch.old n × (n + count ≤ most_sent) × (1 ≤ count) }
     ensures { (latch_id latch.new ≡ latch_id latch.old)
-        × ((n : ℕ) → Inside latch.old n → Outside latch.new (n + 1))
+        × ((n : ℕ) → Inside latch.old n → Outside latch.new (n + count))
         × (found_of latch.new ≡ found_of latch.old) }
 {
     if let Some(latch) = latch {
-        latch.finish();
+        latch.finish(count);
     }
 }
 
@@ -47,7 +48,7 @@ pub fn cancel(latch: &mut Option<LatchSend>)
 
 /// Closes the latch at `taken` finished messages, if nobody is inside.
 pub fn close(latch: &mut Option<LatchRecv>, taken: u64) -> Closing
-    requires { IsSome latch.old × (closed_of latch.old ≡ 0) × (taken < 2 ^ 47) }
+    requires { IsSome latch.old × (closed_of latch.old ≡ 0) × (taken < above_all_sent) }
     ensures same { (latch_id latch.new ≡ latch_id latch.old) × (found_of latch.new ≡ found_of latch.old) }
     ensures rule { (n finished was : ℕ) →
         Receiving latch.old n finished was → Receiving latch.new n finished taken }

@@ -2,7 +2,7 @@
 ghost use Rattle.std.specs.Prelude.{◌≡◌, ℕ, ◌<◌, ◌≤◌, [], ◌∷◌, ◌++◌, length, slice_index_or, Some, None, IfOk};
 ghost use Rattle.std.specs.Arc.{arc_value};
 ghost use Rattle.crossbeam_queue.specs.SegTies.{IsSegPassOf};
-ghost use Rattle.lw_ring.specs.Queue.{receiver, one_more};
+ghost use Rattle.lw_ring.specs.Queue.{most_senders, receiver, one_more};
 ghost use Rattle.lw_ring.specs.Ends.{latch_id, found_of, Outside, ReceiverView, new_sender, new_receiver};
 
 use crate::ends::{SendEnd, Shared};
@@ -14,6 +14,9 @@ use std::alloc::Global;
 use std::marker::Brand;
 use std::sync::Arc;
 
+/// How many emptied vectors a receiver keeps.
+const MOST_SPARES: usize = 8;
+
 /// A new ring that can be closed, for `senders` senders, numbered from 0.
 ///
 /// `number` is that of the receiver, which with the family decides what fits.
@@ -23,14 +26,14 @@ pub fn ring<T: Tagged + Drop>(
     number: u32,
 ) -> Result<(RecvEnd<T>, Vec<SendEnd<T>>), NoMemory>
     ghost family: { T.Family }
-    requires { (1 ≤ senders) × (senders ≤ 127) }
+    requires { (1 ≤ senders) × (senders ≤ most_senders) }
     ensures recv { IfOk result (λ r. (latch : _) ×
         (r.0 ≡ new_receiver r.0.queue (Some latch) number (Some family) senders)) }
     ensures count { IfOk result (λ r. length r.1.items ≡ senders) }
     ensures ends { IfOk result (λ r. (k : ℕ) (d : _) → k < senders →
         slice_index_or r.1.items k d ≡ new_sender r.0.queue r.0.latch number (Some family) k) }
 {
-    latched::<T, Brand>(alloc, senders, number)
+    ring_as::<T, Brand>(alloc, senders, number)
 }
 
 /// A new ring without a latch, which is never closed. The rest is as for `ring`.
@@ -40,23 +43,25 @@ pub fn open_ring<T: Tagged + Drop>(
     number: u32,
 ) -> Result<(RecvEnd<T>, Vec<SendEnd<T>>), NoMemory>
     ghost family: { T.Family }
-    requires { (1 ≤ senders) × (senders ≤ 127) }
+    requires { (1 ≤ senders) × (senders ≤ most_senders) }
     ensures recv { IfOk result (λ r.
         r.0 ≡ new_receiver r.0.queue None number (Some family) senders) }
     ensures count { IfOk result (λ r. length r.1.items ≡ senders) }
     ensures ends { IfOk result (λ r. (k : ℕ) (d : _) → k < senders →
         slice_index_or r.1.items k d ≡ new_sender r.0.queue None number (Some family) k) }
 {
-    open::<T, Brand>(alloc, senders, number)
+    open_ring_as::<T, Brand>(alloc, senders, number)
 }
 
-// `ring`, named by B. The number is an argument so that the caller can name it in its choice of B.
-fn latched<T: Tagged + Drop, B: Naming<T::Family>>(
+/// `ring`, where the type `B` names the number and the family. So a caller can keep the family in a type of its own, as
+/// where the message is generic. The number is an argument too, by which a `Brand` can be chosen.
+pub fn ring_as<T: Tagged + Drop, B: Naming<T::Family>>(
     alloc: Global,
     senders: u32,
-    _number: u32,
+    number: u32,
 ) -> Result<(RecvEnd<T>, Vec<SendEnd<T>>), NoMemory>
-    requires { (1 ≤ senders) × (senders ≤ 127) }
+    requires senders { (1 ≤ senders) × (senders ≤ most_senders) }
+    requires number { number ≡ B.number }
     ensures recv { IfOk result (λ r. (latch : _) ×
         (r.0 ≡ new_receiver r.0.queue (Some latch) B.number B.family senders)) }
     ensures count { IfOk result (λ r. length r.1.items ≡ senders) }
@@ -76,17 +81,20 @@ fn latched<T: Tagged + Drop, B: Naming<T::Family>>(
         latch: Some(latch),
         senders,
         taken: 0,
+        hand: Vec::new(alloc),
+        spares: Vec::with_capacity(alloc, MOST_SPARES)?,
     };
     Ok((recv, ends))
 }
 
-// `open_ring`, named by B.
-fn open<T: Tagged + Drop, B: Naming<T::Family>>(
+/// `open_ring`, where the type `B` names the number and the family, as in `ring_as`.
+pub fn open_ring_as<T: Tagged + Drop, B: Naming<T::Family>>(
     alloc: Global,
     senders: u32,
-    _number: u32,
+    number: u32,
 ) -> Result<(RecvEnd<T>, Vec<SendEnd<T>>), NoMemory>
-    requires { (1 ≤ senders) × (senders ≤ 127) }
+    requires senders { (1 ≤ senders) × (senders ≤ most_senders) }
+    requires number { number ≡ B.number }
     ensures recv { IfOk result (λ r.
         r.0 ≡ new_receiver r.0.queue None B.number B.family senders) }
     ensures count { IfOk result (λ r. length r.1.items ≡ senders) }
@@ -104,6 +112,8 @@ fn open<T: Tagged + Drop, B: Naming<T::Family>>(
         latch: None,
         senders,
         taken: 0,
+        hand: Vec::new(alloc),
+        spares: Vec::with_capacity(alloc, MOST_SPARES)?,
     };
     Ok((recv, ends))
 }
@@ -129,7 +139,7 @@ fn deal<T: Tagged + Drop>(
     sender: u32,
 ) -> Result<SendEnd<T>, NoMemory>
     requires queue { IsSegPassOf (arc_value shared.now).queue pass.old }
-    requires receiver { ReceiverView pass.old.me.view.client sender 0 × (sender < 127) }
+    requires receiver { ReceiverView pass.old.me.view.client sender 0 × (sender < most_senders) }
     requires latch { Outside latch 0 × (found_of latch ≡ 0) }
     ensures pass { IfOk result (λ e.
         IsSegPassOf (arc_value shared.now).queue pass.new

@@ -1,4 +1,5 @@
 //! The rule of a ring's queue: what each pass knows, and what each kind of step tells the pass that makes it.
+use crate::parcel::Parcel;
 use crossbeam_queue::protocol::{Join, Lesson, Outcome, Protocol, Split};
 use crossbeam_queue::{RuledSegQueue, SegPass};
 use lw_base::{Naming, Tagged};
@@ -16,7 +17,7 @@ pub struct PassView<L, F> {
     pub sends: bool,
     pub from: u64,
     pub put: LinkedList<L>,
-    /// Whether it receives, how many senders were made, and what it took.
+    /// Whether it receives, how many senders were made, and what it took off the queue.
     pub gets: bool,
     pub made: u64,
     pub got: LinkedList<L>,
@@ -29,7 +30,7 @@ pub struct Rule<T> {
     of: PhantomData<T>,
 }
 
-impl<T: Tagged> Protocol<T, PassView<T::Letter, T::Family>> for Rule<T> {
+impl<T: Tagged> Protocol<Parcel<T>, PassView<T::Letter, T::Family>> for Rule<T> {
     ghost use Rattle.lw_ring.specs.Queue.{Delivers, fresh};
 
     ghost holds = { Delivers T.letter T.tag_of T.fits };
@@ -72,7 +73,7 @@ impl<L, F> Join<PassView<L, F>> for Dealing {
 
 pub struct Sending;
 
-impl<T: Tagged> Outcome<T, PassView<T::Letter, T::Family>> for Sending {
+impl<T: Tagged> Outcome<Parcel<T>, PassView<T::Letter, T::Family>> for Sending {
     ghost use Rattle.lw_ring.specs.Queue.{Sends};
 
     ghost then = { Sends T.letter };
@@ -80,22 +81,22 @@ impl<T: Tagged> Outcome<T, PassView<T::Letter, T::Family>> for Sending {
 
 pub struct Taking;
 
-impl<T: Tagged> Outcome<T, PassView<T::Letter, T::Family>> for Taking {
+impl<T: Tagged> Outcome<Parcel<T>, PassView<T::Letter, T::Family>> for Taking {
     ghost use Rattle.lw_ring.specs.Queue.{Takes};
 
     ghost then = { Takes T.letter T.tag_of T.fits };
 }
 
-impl<T: Tagged> Lesson<T, PassView<T::Letter, T::Family>> for Taking {
+impl<T: Tagged> Lesson<Parcel<T>, PassView<T::Letter, T::Family>> for Taking {
     ghost use Rattle.lw_ring.specs.Queue.{Saw};
 
     ghost fact = { Saw T.letter T.tag_of T.fits };
 }
 
 pub type Queue<T> = RuledSegQueue<
-    T,
+    Parcel<T>,
     PassView<<T as Tagged>::Letter, <T as Tagged>::Family>,
     Rule<T>,
 >;
 
-pub type Pass<T> = SegPass<T, PassView<<T as Tagged>::Letter, <T as Tagged>::Family>>;
+pub type Pass<T> = SegPass<Parcel<T>, PassView<<T as Tagged>::Letter, <T as Tagged>::Family>>;

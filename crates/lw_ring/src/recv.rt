@@ -1,16 +1,18 @@
 //! The receiving end of a ring.
-ghost use Rattle.std.specs.Prelude.{◌≡◌, ◌≢◌, ℕ, ◌+◌, ◌*◌, ◌^◌, ◌<◌, ◌≤◌, true, false, [], ◌++◌, length, map, IfOk, OnErr, IsSome, MatchOption, vec_capacity};
+ghost use Rattle.std.specs.Prelude.{◌≡◌, ◌≢◌, ℕ, ◌+◌, ◌*◌, ◌^◌, ◌<◌, ◌≤◌, true, false, [], ◌++◌, length, map, reverse, IfSome, All, IsSome, MatchOption, vec_capacity};
 ghost use Rattle.crossbeam_queue.specs.SegTies.{IsSegPassOf};
-ghost use Rattle.lw_ring.specs.Queue.{Takes, Saw};
-ghost use Rattle.lw_ring.specs.Calls.{AllFit, EmptyAt};
+ghost use Rattle.lw_ring.specs.Queue.{above_all_sent, contents, AllFit, Takes, TakenOff, Saw};
+ghost use Rattle.lw_ring.specs.Calls.{EmptyAt, InTurn};
 
 use crate::ends::Shared;
 use crate::gate;
+use crate::parcel::Parcel;
 use crate::queue::{Pass, Queue, Taking};
-use lw_base::{NoMemory, Tagged};
+use lw_base::Tagged;
 use lw_latch::{Closing, LatchRecv};
 use std::alloc::Global;
 use std::marker::Model;
+use std::mem;
 use std::sync::{Arc, Wait};
 
 /// The end of the one receiver.
@@ -20,14 +22,20 @@ pub struct RecvEnd<T: Tagged + Drop> {
     pub(crate) pass: Pass<T>,
     pub(crate) latch: Option<LatchRecv>,
     pub(crate) senders: u32,
+    // How many messages were handed out.
     pub(crate) taken: u64,
+    // The rest of the run that was begun, the last message first.
+    pub(crate) hand: Vec<T>,
+    // Vectors of runs that were handed out, for as many as it has room.
+    pub(crate) spares: Vec<Vec<T>>,
 }
 
 impl<T: Tagged + Drop> Model for RecvEnd<T> {
-    ghost use Rattle.std.specs.Prelude.{◌≡◌, ◌-◌, ◌<◌, ◌≤◌, length};
+    ghost use Rattle.std.specs.Prelude.{◌≡◌, ◌+◌, ◌-◌, ◌<◌, ◌≤◌, [], length, map, reverse, take, drop, All};
     ghost use Rattle.std.specs.Arc.{arc_value};
     ghost use Rattle.crossbeam_queue.specs.SegTies.{IsSegPassOf};
     ghost use Rattle.lw_base.specs.Letters.{total_length};
+    ghost use Rattle.lw_ring.specs.Queue.{above_all_sent, AllFit};
     ghost use Rattle.lw_ring.specs.Ends.{Receiver, latch_id, found_of, closed_of, tries_of, seen_of, Receiving, ReceiverView};
 
     ghost Value = { Receiver T.Letter T.Family };
@@ -38,7 +46,8 @@ impl<T: Tagged + Drop> Model for RecvEnd<T> {
       number = e.pass.me.view.client.number;
       family = e.pass.me.view.client.family;
       senders = e.senders;
-      taken = e.pass.me.view.client.got;
+      taken = take e.taken e.pass.me.view.client.got;
+      hand = drop e.taken e.pass.me.view.client.got;
       closed = closed_of e.latch;
       tries = tries_of e.latch;
       seen = seen_of e.latch;
@@ -48,19 +57,23 @@ impl<T: Tagged + Drop> Model for RecvEnd<T> {
 
     ghost invariant = { λ e.
         IsSegPassOf (arc_value e.shared).queue e.pass
-        × ReceiverView e.pass.me.view.client e.senders e.taken
-        × (e.taken < 140737488355328)
+        × ReceiverView e.pass.me.view.client e.senders (e.taken + length e.hand.items)
+        × (e.taken + length e.hand.items < above_all_sent)
         × (length e.pass.me.view.client.known ≤ e.senders)
         × Receiving e.latch (e.senders - length e.pass.me.view.client.known)
-        (total_length e.pass.me.view.client.known) e.taken };
+        (total_length e.pass.me.view.client.known) e.taken
+        × (drop e.taken e.pass.me.view.client.got ≡ map T.letter (reverse e.hand.items))
+        × AllFit T.letter T.tag_of T.fits e.pass.me.view.client.number e.pass.me.view.client.family
+        e.senders (reverse e.hand.items)
+        × All (λ v. v.items ≡ []) e.spares.items };
 }
 
-// The oldest value that waits.
+// The oldest parcel that waits.
 pub(crate) fn pop<T: Tagged + Drop, R: Wait>(
     rt: &R,
     queue: &Queue<T>,
     pass: &mut Pass<T>,
-) -> Option<T>
+) -> Option<Parcel<T>>
     requires queue { IsSegPassOf queue.now pass.old }
     requires receiver { (pass.old.me.view.client.fresh ≡ false) × (pass.old.me.view.client.gets ≡ true) }
     ensures queue { IsSegPassOf queue.now pass.new }
@@ -72,32 +85,15 @@ pub(crate) fn pop<T: Tagged + Drop, R: Wait>(
     queue.pop_as::<Taking, R>(rt, pass)
 }
 
-// Pops up to `max` values into a vector that has the room.
-fn fill<T: Tagged + Drop, R: Wait>(
-    rt: &R,
-    queue: &Queue<T>,
-    pass: &mut Pass<T>,
-    batch: &mut Vec<T>,
-    max: usize,
-)
-    requires queue { IsSegPassOf queue.now pass.old }
-    requires receiver { (pass.old.me.view.client.fresh ≡ false)
-        × (pass.old.me.view.client.gets ≡ true)
-        × (length pass.old.me.view.client.got < 2 ^ 47) }
-    requires room { (batch.old.items ≡ []) × (max ≤ vec_capacity batch.old) }
-    ensures queue { IsSegPassOf queue.now pass.new }
-    ensures view { pass.new.me.view.client ≡ record pass.old.me.view.client {
-      got =
-          pass.old.me.view.client.got ++ map T.letter batch.new.items;
-    } }
-    ensures each { AllFit T.letter T.tag_of T.fits pass.old.me.view.client.number
-        pass.old.me.view.client.family pass.old.me.view.client.made batch.new.items }
-    ensures count { (length batch.new.items ≤ max) × (length pass.new.me.view.client.got < 2 ^ 47) }
-    ensures empty { length batch.new.items < max →
-        Saw T.letter T.tag_of T.fits pass.new.me.view.client [] }
+// Hands out what is in hand, until there are `max` messages.
+fn hand_out<T: Tagged + Drop>(hand: &mut Vec<T>, batch: &mut Vec<T>, max: usize)
+    requires room { (length batch.old.items ≤ max) × (max ≤ vec_capacity batch.old) }
+    ensures items { batch.new.items ++ reverse hand.new.items ≡ batch.old.items ++ reverse hand.old.items }
+    ensures room { (length batch.new.items ≤ max) × (max ≤ vec_capacity batch.new) }
+    ensures all { length batch.new.items < max → hand.new.items ≡ [] }
 {
-    for _ in 0..max {
-        match pop(rt, queue, pass) {
+    for _ in batch.len()..max {
+        match hand.pop() {
             Some(value) => {
                 if batch.push(value).is_err() {
                     unreachable!();
@@ -108,40 +104,164 @@ fn fill<T: Tagged + Drop, R: Wait>(
     }
 }
 
+// Keeps an emptied vector, where there is room.
+fn keep<T: Tagged + Drop>(spares: &mut Vec<Vec<T>>, emptied: Vec<T>)
+    requires { All (λ v. v.items ≡ []) spares.old.items × (emptied.items ≡ []) }
+    ensures { All (λ v. v.items ≡ []) spares.new.items }
+{
+    if emptied.capacity() > 0 && spares.len() < spares.capacity() {
+        if spares.push(emptied).is_err() {
+            unreachable!();
+        }
+    }
+}
+
+// Hands a parcel out. What goes past `max` messages stays in hand.
+fn unpack<T: Tagged + Drop>(
+    parcel: Parcel<T>,
+    hand: &mut Vec<T>,
+    spares: &mut Vec<Vec<T>>,
+    batch: &mut Vec<T>,
+    max: usize,
+)
+    requires room { (length batch.old.items < max) × (max ≤ vec_capacity batch.old) }
+    requires hand { hand.old.items ≡ [] }
+    requires spares { All (λ v. v.items ≡ []) spares.old.items }
+    ensures items { batch.new.items ++ reverse hand.new.items ≡ batch.old.items ++ contents parcel }
+    ensures room { (length batch.new.items ≤ max) × (max ≤ vec_capacity batch.new) }
+    ensures all { length batch.new.items < max → hand.new.items ≡ [] }
+    ensures spares { All (λ v. v.items ≡ []) spares.new.items }
+{
+    match parcel {
+        Parcel::One(value) => {
+            if batch.push(value).is_err() {
+                unreachable!();
+            }
+        }
+        Parcel::Run(run) => unpack_run(run, hand, spares, batch, max),
+    }
+}
+
+// The same of a run.
+fn unpack_run<T: Tagged + Drop>(
+    mut run: Vec<T>,
+    hand: &mut Vec<T>,
+    spares: &mut Vec<Vec<T>>,
+    batch: &mut Vec<T>,
+    max: usize,
+)
+    requires room { (length batch.old.items < max) × (max ≤ vec_capacity batch.old) }
+    requires hand { hand.old.items ≡ [] }
+    requires spares { All (λ v. v.items ≡ []) spares.old.items }
+    ensures items { batch.new.items ++ reverse hand.new.items ≡ batch.old.items ++ run.items }
+    ensures room { (length batch.new.items ≤ max) × (max ≤ vec_capacity batch.new) }
+    ensures all { length batch.new.items < max → hand.new.items ≡ [] }
+    ensures spares { All (λ v. v.items ≡ []) spares.new.items }
+{
+    if run.len() <= max - batch.len() {
+        if batch.append(&mut run).is_err() {
+            unreachable!();
+        }
+        keep(spares, run);
+    } else {
+        run.reverse();
+        keep(spares, mem::replace(hand, run));
+        hand_out(hand, batch, max);
+    }
+}
+
+// Takes parcels off the queue until there are `max` messages or none waits. Before that nothing is in hand.
+fn fill<T: Tagged + Drop, R: Wait>(
+    rt: &R,
+    queue: &Queue<T>,
+    pass: &mut Pass<T>,
+    hand: &mut Vec<T>,
+    spares: &mut Vec<Vec<T>>,
+    batch: &mut Vec<T>,
+    max: usize,
+)
+    requires queue { IsSegPassOf queue.now pass.old }
+    requires receiver { (pass.old.me.view.client.fresh ≡ false)
+        × (pass.old.me.view.client.gets ≡ true)
+        × (length pass.old.me.view.client.got < above_all_sent) }
+    requires room { (length batch.old.items ≤ max) × (max ≤ vec_capacity batch.old) }
+    requires hand { length batch.old.items < max → hand.old.items ≡ [] }
+    requires spares { All (λ v. v.items ≡ []) spares.old.items }
+    ensures queue { IsSegPassOf queue.now pass.new }
+    ensures off { TakenOff T.letter T.tag_of T.fits pass.old.me.view.client pass.new.me.view.client
+        (batch.old.items ++ reverse hand.old.items) (batch.new.items ++ reverse hand.new.items) }
+    ensures room { (length batch.new.items ≤ max) × (max ≤ vec_capacity batch.new) }
+    ensures hand { length batch.new.items < max → hand.new.items ≡ [] }
+    ensures spares { All (λ v. v.items ≡ []) spares.new.items }
+    ensures empty { length batch.new.items < max →
+        Saw T.letter T.tag_of T.fits pass.new.me.view.client [] }
+{
+    for _ in rt.forever() {
+        if batch.len() >= max {
+            return;
+        }
+        match pop(rt, queue, pass) {
+            Some(parcel) => unpack(parcel, hand, spares, batch, max),
+            None => return,
+        }
+    }
+    unreachable!()
+}
+
 impl<T: Tagged + Drop> RecvEnd<T> {
-    /// How many messages it has taken.
+    /// How many messages it has taken, which is how many it has handed out.
     pub fn taken(&self) -> u64
         ensures length { result ≡ length self.now.taken }
-        ensures bound { result < 2 ^ 47 }
+        ensures bound { result < above_all_sent }
     {
         self.taken
     }
 
-    /// Takes the messages that wait, oldest first, up to `max`.
+    /// Takes up to `max` messages, oldest first, into an empty vector that has the room. It takes no memory.
     ///
-    /// It takes them one by one, and stops before `max` only where it found nothing waiting. Each fits the ring, and its
-    /// tag names one of the ring's senders. Without memory for the vector nothing is taken.
-    pub fn take<R: Wait>(&mut self, rt: &R, alloc: Global, max: usize) -> Result<Vec<T>, NoMemory>
-        requires max { (1 ≤ max) × (max ≤ 8) }
-        requires open { self.old.closed ≡ 0 }
-        ensures taken { IfOk result (λ v.
-            self.new ≡ record self.old { taken = self.old.taken ++ map T.letter v.items }) }
-        ensures each { IfOk result (λ v.
-            AllFit T.letter T.tag_of T.fits self.old.number self.old.family self.old.senders v.items) }
-        ensures count { IfOk result (λ v. length v.items ≤ max) }
-        ensures fewer { IfOk result (λ v. length v.items < max →
-            EmptyAt T.letter T.tag_of T.fits self.new) }
-        ensures refused { OnErr result (self.new ≡ self.old) }
+    /// What is in hand of a run comes first. Then parcels come off the queue one by one, and what goes past `max` stays in
+    /// hand. There are fewer than `max` only where nothing is in hand and the queue was found empty, by loads alone. Each
+    /// message fits the ring, and its tag names one of the ring's senders.
+    pub fn take_into<R: Wait>(&mut self, rt: &R, max: usize, batch: &mut Vec<T>)
+        requires room { (batch.old.items ≡ []) × (max ≤ vec_capacity batch.old) }
+        requires not_closed { self.old.closed ≡ 0 }
+        ensures taken { self.new ≡ record self.old {
+          taken = self.old.taken ++ map T.letter batch.new.items;
+          hand = self.new.hand;
+        } }
+        ensures order { InTurn self.old.hand (map T.letter batch.new.items) self.new.hand }
+        ensures each { AllFit T.letter T.tag_of T.fits self.old.number self.old.family self.old.senders batch.new.items }
+        ensures count { length batch.new.items ≤ max }
+        ensures fewer { length batch.new.items < max →
+            (self.new.hand ≡ []) × EmptyAt T.letter T.tag_of T.fits self.new }
+        ensures room { max ≤ vec_capacity batch.new }
     {
-        let mut batch = Vec::with_capacity(alloc, max)?;
-        fill(rt, &self.shared.queue, &mut self.pass, &mut batch, max);
+        hand_out(&mut self.hand, batch, max);
+        fill(
+            rt,
+            &self.shared.queue,
+            &mut self.pass,
+            &mut self.hand,
+            &mut self.spares,
+            batch,
+            max,
+        );
         self.taken += batch.len() as u64;
-        Ok(batch)
+    }
+
+    /// An emptied vector of a run that was handed out, for a run to be sent, if one is kept. It has memory already. So
+    /// where requests and replies go in runs of like length, no memory is taken once they are going.
+    pub fn spare(&mut self) -> Option<Vec<T>>
+        ensures same { self.new ≡ self.old }
+        ensures empty { IfSome result (λ v. v.items ≡ []) }
+    {
+        self.spares.pop()
     }
 
     /// Closes the ring, if every message that was sent was taken and no sender is inside a send.
     ///
-    /// `NotYet` has the latch's word, which is another than 2^17 times what was taken.
+    /// `NotYet` has the latch's word, which is another than 2^17 times what was taken. Where a message is still in hand,
+    /// the word is another.
     pub fn close(&mut self) -> Closing
         requires { IsSome self.old.latch × (self.old.closed ≡ 0) }
         ensures same { self.new ≡ record self.old {

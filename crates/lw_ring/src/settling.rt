@@ -1,14 +1,14 @@
 //! What is known of a ring once all its ends are in one hand.
-ghost use Rattle.std.specs.Prelude.{◌≡◌, ℕ, ◌+◌, ◌^◌, ◌<◌, ◌≤◌, true, false, [], ◌∷◌, ◌++◌, length, map, slice_index_or, All, IfOk};
+ghost use Rattle.std.specs.Prelude.{◌≡◌, ℕ, ◌+◌, ◌^◌, ◌<◌, ◌≤◌, true, false, [], ◌∷◌, ◌++◌, length, map, slice_index_or, All, IfOk, OnOk};
 ghost use Rattle.crossbeam_queue.specs.SegTies.{IsSegPassOf};
-ghost use Rattle.lw_base.specs.Letters.{sent_by, list_at};
-ghost use Rattle.lw_ring.specs.Queue.{Saw};
-ghost use Rattle.lw_ring.specs.Calls.{AllFit};
+ghost use Rattle.lw_base.specs.Letters.{sent_by, list_at, Numbered};
+ghost use Rattle.lw_ring.specs.Queue.{above_all_sent, contents, AllFit, TakenOff, Saw};
 ghost use Rattle.lw_ring.specs.Ends.{IsEnd};
 ghost use Rattle.lw_ring.specs.Settling.{AreAllEnds, all_sent, all_found, whole};
 
 use crate::ends::SendEnd;
 use crate::gate;
+use crate::parcel::Parcel;
 use crate::queue::{Dealing, Pass, Queue};
 use crate::recv::{RecvEnd, pop};
 use lw_base::{NoMemory, Tagged};
@@ -35,9 +35,9 @@ pub struct Settled<T: Tagged + Drop> {
 
 /// Settles a ring: takes what is left, and counts what each sender sent and how much of it had been taken.
 ///
-/// Of each sender, what had been taken and then its part of what is left is what it sent. Of a closed ring nothing is
-/// left, and where a sender was refused as `Exited` the ring is closed. The ends are all of the ring's, in order. Without
-/// memory they are dropped.
+/// What is left was in the receiver's hand, and then in the queue. Of each sender, what had been taken and then its part of
+/// what is left is what it sent, numbered from 0. Of a closed ring nothing is left, and where a sender was refused as
+/// `Exited` the ring is closed. The ends are all of the ring's, in order. Without memory they are dropped.
 pub fn settle<T: Tagged + Drop, R: Wait>(
     rt: &R,
     alloc: Global,
@@ -48,11 +48,14 @@ pub fn settle<T: Tagged + Drop, R: Wait>(
     requires all { AreAllEnds recv ends.items }
     ensures recv { IfOk result (λ s. s.recv ≡ record recv {
       taken = recv.taken ++ map T.letter s.left.items;
+      hand = [];
       known = all_sent ends.items;
       found = recv.found + all_found ends.items;
     }) }
     ensures each { IfOk result (λ s. (p : ℕ) →
         sent_by T.tag_of p (recv.taken ++ map T.letter s.left.items) ≡ list_at (all_sent ends.items) p) }
+    ensures numbered { IfOk result (λ _. (k : ℕ) → k < recv.senders →
+        Numbered T.tag_of k (list_at (all_sent ends.items) k)) }
     ensures senders { IfOk result (λ s. length s.counts.items ≡ recv.senders) }
     ensures counts { IfOk result (λ s. (k : ℕ) (d : _) → k < recv.senders →
         slice_index_or s.counts.items k d ≡ record {
@@ -83,6 +86,8 @@ fn gather<T: Tagged + Drop>(
       found = recv.found + all_found ends.items;
     }) }
     ensures counts { IfOk result (λ r. r.1.items ≡ map whole (all_sent ends.items)) }
+    ensures numbered { IfOk result (λ r. (k : ℕ) → k < length r.0.known →
+        Numbered T.tag_of k (list_at r.0.known k)) }
 {
     let mut counts = Vec::new(alloc);
     for end in ends {
@@ -122,7 +127,7 @@ fn empty<T: Tagged + Drop, R: Wait>(
 ) -> Result<(RecvEnd<T>, Vec<T>), NoMemory>
     requires { length recv.known ≡ recv.senders }
     ensures recv { IfOk result (λ r.
-        r.0 ≡ record recv { taken = recv.taken ++ map T.letter r.1.items }) }
+        r.0 ≡ record recv { taken = recv.taken ++ map T.letter r.1.items; hand = [] }) }
     ensures each { IfOk result (λ r. (p : ℕ) →
         sent_by T.tag_of p (recv.taken ++ map T.letter r.1.items) ≡ list_at recv.known p) }
     ensures fits { IfOk result (λ r.
@@ -136,9 +141,12 @@ fn empty<T: Tagged + Drop, R: Wait>(
         mut latch,
         senders,
         taken,
+        mut hand,
+        spares,
     } = recv;
     gate::learn(&mut latch);
-    let left = drain(rt, &shared.queue, &mut pass, alloc)?;
+    hand.reverse();
+    let left = drain(rt, &shared.queue, &mut pass, hand)?;
     let taken = taken + left.len() as u64;
     let recv = RecvEnd {
         shared,
@@ -146,41 +154,46 @@ fn empty<T: Tagged + Drop, R: Wait>(
         latch,
         senders,
         taken,
+        hand: Vec::new(alloc),
+        spares,
     };
     Ok((recv, left))
 }
 
-// Pops until nothing waits.
+// Takes off the queue what waits, behind what was in hand.
 fn drain<T: Tagged + Drop, R: Wait>(
     rt: &R,
     queue: &Queue<T>,
     pass: &mut Pass<T>,
-    alloc: Global,
+    mut left: Vec<T>,
 ) -> Result<Vec<T>, NoMemory>
     requires queue { IsSegPassOf queue.now pass.old }
     requires receiver { (pass.old.me.view.client.fresh ≡ false)
         × (pass.old.me.view.client.gets ≡ true)
-        × (length pass.old.me.view.client.got < 2 ^ 47) }
+        × (length pass.old.me.view.client.got < above_all_sent) }
     ensures queue { IfOk result (λ _. IsSegPassOf queue.now pass.new) }
-    ensures view { IfOk result (λ left.
-        pass.new.me.view.client ≡ record pass.old.me.view.client {
-          got =
-              pass.old.me.view.client.got ++ map T.letter left.items;
-        }) }
-    ensures each { IfOk result (λ left.
-        AllFit T.letter T.tag_of T.fits pass.old.me.view.client.number
-        pass.old.me.view.client.family pass.old.me.view.client.made left.items) }
-    ensures count { IfOk result (λ _. length pass.new.me.view.client.got < 2 ^ 47) }
+    ensures off { IfOk result (λ all. TakenOff T.letter T.tag_of T.fits pass.old.me.view.client
+        pass.new.me.view.client left.items all.items) }
     ensures empty { IfOk result (λ _. Saw T.letter T.tag_of T.fits pass.new.me.view.client []) }
 {
-    let mut left = Vec::new(alloc);
     for _ in rt.forever() {
         match pop(rt, queue, pass) {
-            Some(value) => left.push(value)?,
+            Some(parcel) => add_all(&mut left, parcel)?,
             None => return Ok(left),
         }
     }
     unreachable!()
+}
+
+// The messages of a parcel go behind the others.
+fn add_all<T: Tagged + Drop>(left: &mut Vec<T>, parcel: Parcel<T>) -> Result<(), NoMemory>
+    ensures { OnOk result (left.new.items ≡ left.old.items ++ contents parcel) }
+{
+    match parcel {
+        Parcel::One(value) => left.push(value)?,
+        Parcel::Run(mut run) => left.append(&mut run)?,
+    }
+    Ok(())
 }
 
 // What is left of each sender had not been taken.

@@ -3,4 +3,10 @@
 #![tactic(auto)]
 
 #[cfg(test)]
+mod places;
+#[cfg(test)]
+mod ring_latches;
+#[cfg(test)]
+mod rings;
+#[cfg(test)]
 mod worlds;

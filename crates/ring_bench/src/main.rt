@@ -12,12 +12,18 @@ mod storm;
 
 use anyhow::{Result, anyhow};
 use measure::Rates;
+use ringed::Way;
 use std::alloc::Global;
 use std::env;
 use std::io::Print;
 use std::sync::Wait;
 use std::thread::Threads;
 use std::time::Clock;
+
+/// The cases of one to three sending threads, singly and in runs of eight.
+const SENDING: [&str; 3] = ["1 sending thread", "2 sending threads", "3 sending threads"];
+
+const SENDING_RUNS: [&str; 3] = ["1, in runs of 8", "2, in runs of 8", "3, in runs of 8"];
 
 fn main(rt: HostRuntime) -> Result<()> {
     let alloc = rt.alloc();
@@ -48,31 +54,39 @@ fn measure_all<R: Threads + Wait + Sync + Clock + Print>(
         None => 1_000_000,
     };
     println!(rt; "best of 5 runs of {messages} messages, in messages per second")?;
+    measure_one_thread(rt, alloc, messages)?;
+    for senders in 1..=3u32 {
+        let singly = measure::among_threads(rt, alloc, messages, senders, Way::Singly)?;
+        print_rates(rt, SENDING[senders as usize - 1], singly)?;
+    }
+    for senders in 1..=3u32 {
+        let in_runs = measure::among_threads(rt, alloc, messages, senders, Way::InRuns)?;
+        print_rates(rt, SENDING_RUNS[senders as usize - 1], in_runs)?;
+    }
     print_rates(
         rt,
-        "one thread, 1 and 1",
-        measure::on_one_thread(rt, alloc, messages, 1)?,
+        "takes of nothing",
+        measure::of_nothing(rt, alloc, messages)?,
     )?;
-    print_rates(
-        rt,
-        "one thread, 8 and 8",
-        measure::on_one_thread(rt, alloc, messages, 8)?,
-    )?;
-    print_rates(
-        rt,
-        "1 sending thread",
-        measure::among_threads(rt, alloc, messages, 1)?,
-    )?;
-    print_rates(
-        rt,
-        "2 sending threads",
-        measure::among_threads(rt, alloc, messages, 2)?,
-    )?;
-    print_rates(
-        rt,
-        "3 sending threads",
-        measure::among_threads(rt, alloc, messages, 3)?,
-    )?;
+    Ok(())
+}
+
+// The cases on one thread.
+fn measure_one_thread<R: Wait + Clock + Print>(rt: &R, alloc: Global, messages: u64) -> Result<()> {
+    for (case, batch) in [("one thread, 1 and 1", 1), ("one thread, 8 and 8", 8)] {
+        print_rates(
+            rt,
+            case,
+            measure::on_one_thread(rt, alloc, messages, batch, Way::Singly)?,
+        )?;
+    }
+    for (case, batch) in [("a run of 2", 2), ("a run of 4", 4), ("a run of 8", 8)] {
+        print_rates(
+            rt,
+            case,
+            measure::on_one_thread(rt, alloc, messages, batch, Way::InRuns)?,
+        )?;
+    }
     Ok(())
 }
 

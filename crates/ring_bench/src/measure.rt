@@ -1,6 +1,7 @@
 //! Messages per second.
 ghost use Rattle.std.specs.Prelude.{◌≤◌};
 
+use crate::ringed::Way;
 use crate::{plain, ringed};
 use anyhow::Result;
 use std::alloc::{AllocError, Global};
@@ -39,6 +40,7 @@ pub fn on_one_thread<R: Wait + Clock>(
     alloc: Global,
     messages: u64,
     batch: usize,
+    way: Way,
 ) -> Result<Rates>
     requires { (1 ≤ batch) × (batch ≤ 8) }
 {
@@ -46,7 +48,7 @@ pub fn on_one_thread<R: Wait + Clock>(
     let mut best = Rates { ring: 0, queue: 0 };
     for _ in 0..RUNS {
         let start = Instant::now(rt)?;
-        let taken = ringed::on_one_thread(rt, alloc, rounds, batch)?;
+        let taken = ringed::on_one_thread(rt, alloc, rounds, batch, way)?;
         let ring = per_second(rt, start, taken)?;
         let start = Instant::now(rt)?;
         let popped = plain::on_one_thread(rt, alloc, rounds, batch)?;
@@ -62,6 +64,7 @@ pub fn among_threads<R: Threads + Wait + Sync + Clock>(
     alloc: Global,
     messages: u64,
     senders: u32,
+    way: Way,
 ) -> Result<Rates>
     requires { (1 ≤ senders) × (senders ≤ 127) }
 {
@@ -69,10 +72,25 @@ pub fn among_threads<R: Threads + Wait + Sync + Clock>(
     let mut best = Rates { ring: 0, queue: 0 };
     for _ in 0..RUNS {
         let start = Instant::now(rt)?;
-        let taken = ringed::among_threads(rt, alloc, senders, each)?;
+        let taken = ringed::among_threads(rt, alloc, senders, each, way)?;
         let ring = per_second(rt, start, taken)?;
         let start = Instant::now(rt)?;
         let popped = plain::among_threads(rt, alloc, senders, each)?;
+        let queue = per_second(rt, start, popped)?;
+        best = best.better(Rates { ring, queue });
+    }
+    Ok(best)
+}
+
+/// Takes of an empty ring, and pops of an empty queue.
+pub fn of_nothing<R: Wait + Clock>(rt: &R, alloc: Global, takes: u64) -> Result<Rates> {
+    let mut best = Rates { ring: 0, queue: 0 };
+    for _ in 0..RUNS {
+        let start = Instant::now(rt)?;
+        let looked = ringed::empty_takes(rt, alloc, takes)?;
+        let ring = per_second(rt, start, looked)?;
+        let start = Instant::now(rt)?;
+        let popped = plain::empty_pops(rt, alloc, takes)?;
         let queue = per_second(rt, start, popped)?;
         best = best.better(Rates { ring, queue });
     }

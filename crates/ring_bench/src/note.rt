@@ -1,7 +1,8 @@
 //! The message of the runs.
-ghost use Rattle.std.specs.Prelude.{◌≡◌, Some};
+ghost use Rattle.std.specs.Prelude.{◌≡◌, ◌+◌, ◌≤◌, ◌^◌, [], Some, IfOk, OnOk, length};
+ghost use Rattle.ring_bench.specs.Notes.{AreNotes};
 
-use lw_base::{Tag, Tagged, What};
+use lw_base::{NoMemory, Tag, Tagged, What};
 use lw_ring::{SendEnd, SendRefusal};
 use std::sync::Wait;
 
@@ -65,4 +66,33 @@ pub fn put<R: Wait>(rt: &R, end: &mut SendEnd<Note>) -> Result<(), SendRefusal<N
 {
     let note = Note::new(end.sender(), end.sent());
     end.send(rt, note)
+}
+
+/// Sends the `count` notes that come next at this end in one run, in this vector.
+pub fn put_run<R: Wait>(
+    rt: &R,
+    end: &mut SendEnd<Note>,
+    mut run: Vec<Note>,
+    count: u64,
+) -> Result<Option<SendRefusal<Vec<Note>>>, NoMemory>
+    requires count { (1 ≤ count) × (count ≤ 2 ^ 20) }
+    requires run { run.items ≡ [] }
+    requires family { end.old.family ≡ Some tt }
+    ensures end { end.new.family ≡ end.old.family }
+{
+    fill_run(&mut run, end.sender(), end.sent(), count)?;
+    Ok(end.send_run(rt, run).err())
+}
+
+// The next notes of a sender.
+fn fill_run(run: &mut Vec<Note>, sender: u32, first: u64, count: u64) -> Result<(), NoMemory>
+    requires count { (count ≤ 2 ^ 20) × (first ≤ 2 ^ 40) }
+    requires run { run.old.items ≡ [] }
+    ensures count { OnOk result (length run.new.items ≡ count) }
+    ensures notes { OnOk result (AreNotes sender first run.new.items) }
+{
+    for k in 0..count {
+        run.push(Note::new(sender, first + k))?;
+    }
+    Ok(())
 }

@@ -83,3 +83,12 @@ fn pop_all<R: Wait>(rt: &R, queue: &SegQueue<Note>, all: u64) -> u64 {
     }
     unreachable!()
 }
+
+/// So many pops of an empty queue.
+pub fn empty_pops<R: Wait>(rt: &R, alloc: Global, pops: u64) -> Result<u64, NoMemory> {
+    let queue: SegQueue<Note> = SegQueue::new(alloc)?;
+    for _ in 0..pops {
+        drop(queue.pop(rt));
+    }
+    Ok(pops)
+}

@@ -2,7 +2,7 @@
 ghost use Rattle.std.specs.Prelude.{◌≡◌, Some, IfOk, IsSome, All};
 ghost use Rattle.std.specs.Bool.{OnFalse};
 
-use crate::note::Note;
+use crate::note::{Note, put_run};
 use lw_base::NoMemory;
 use lw_ring::{Closing, RecvEnd, SendEnd, SendRefusal, ring};
 use std::alloc::Global;
@@ -11,7 +11,13 @@ use std::sync::atomic::{AtomicU64, Ordering};
 use std::thread;
 use std::thread::Threads;
 
-/// How many messages each of the four senders tries to send.
+/// How often each of the four senders tries to send one message and then a run.
+const ROUNDS: u64 = 1_250;
+
+/// How many messages a run has.
+const RUN: u64 = 7;
+
+/// How many messages each sender tries to send.
 const EACH: u64 = 10_000;
 
 /// From how many messages on the receiver tries to close.
@@ -61,7 +67,7 @@ fn run_both<R: Threads + Wait + Sync>(
         rt,
         move ||
             requires { All (λ e. e.family ≡ Some tt) ends.items }
-        { send_all(rt, ends, refused) },
+        { send_all(rt, alloc, ends, refused) },
         move ||
             requires { IsSome recv.latch × (recv.closed ≡ 0) }
         { receive(rt, alloc, recv) },
@@ -70,6 +76,7 @@ fn run_both<R: Threads + Wait + Sync>(
 
 fn send_all<R: Threads + Wait + Sync>(
     rt: &R,
+    alloc: Global,
     mut ends: Vec<SendEnd<Note>>,
     refused: &AtomicU64,
 ) -> Vec<SendEnd<Note>>
@@ -79,23 +86,69 @@ fn send_all<R: Threads + Wait + Sync>(
         rt,
         ends.as_mut_slice(),
         4,
-        &|_, end| send_many(rt, end, refused),
+        &|_, end| {
+            let _answer = send_many(rt, alloc, end, refused);
+        },
     );
     ends
 }
 
-// Tries to send as many messages as one sender has, and counts those that came back because the ring was closed.
-fn send_many<R: Wait>(rt: &R, end: &mut SendEnd<Note>, refused: &AtomicU64)
+// Tries to send all messages of one sender, singly and in runs by turns, and counts those that came back because the ring
+// was closed.
+fn send_many<R: Wait>(
+    rt: &R,
+    alloc: Global,
+    end: &mut SendEnd<Note>,
+    refused: &AtomicU64,
+) -> Result<(), NoMemory>
     requires { end.old.family ≡ Some tt }
 {
-    for _ in 0..EACH {
-        let note = Note::new(end.sender(), end.sent());
-        if let Err(SendRefusal::Exited(back)) = end.send(rt, note) {
-            if back == note {
-                refused.fetch_add(1, Ordering::SeqCst);
-            }
+    for _ in 0..ROUNDS {
+        if send_one(rt, end) {
+            refused.fetch_add(1, Ordering::SeqCst);
+        }
+        if send_a_run(rt, alloc, end)? {
+            refused.fetch_add(RUN, Ordering::SeqCst);
         }
     }
+    Ok(())
+}
+
+// Whether the next message came back because the ring is closed.
+fn send_one<R: Wait>(rt: &R, end: &mut SendEnd<Note>) -> bool
+    requires { end.old.family ≡ Some tt }
+    ensures { end.new.family ≡ end.old.family }
+{
+    let note = Note::new(end.sender(), end.sent());
+    match end.send(rt, note) {
+        Err(SendRefusal::Exited(back)) => back == note,
+        _ => false,
+    }
+}
+
+// Whether the next run came back whole and in order because the ring is closed.
+fn send_a_run<R: Wait>(rt: &R, alloc: Global, end: &mut SendEnd<Note>) -> Result<bool, NoMemory>
+    requires { end.old.family ≡ Some tt }
+    ensures { end.new.family ≡ end.old.family }
+{
+    let first = end.sent();
+    let run = Vec::with_capacity(alloc, RUN as usize)?;
+    match put_run(rt, end, run, RUN)? {
+        Some(SendRefusal::Exited(back)) => Ok(is_run(&back, first)),
+        _ => Ok(false),
+    }
+}
+
+// Whether these are as many notes as a run has, numbered from `first` on.
+fn is_run(notes: &[Note], first: u64) -> bool {
+    let mut next = first;
+    for note in notes {
+        if note.tag.number != next {
+            return false;
+        }
+        next = next.saturating_add(1);
+    }
+    notes.len() as u64 == RUN
 }
 
 fn receive<R: Wait>(rt: &R, alloc: Global, mut recv: RecvEnd<Note>) -> Result<Found, NoMemory>
@@ -106,12 +159,14 @@ fn receive<R: Wait>(rt: &R, alloc: Global, mut recv: RecvEnd<Note>) -> Result<Fo
         in_order: true,
         closed: false,
     };
+    let mut batch = Vec::with_capacity(alloc, 8)?;
     for _ in 0..LOOKS {
-        let batch = recv.take(rt, alloc, 8)?;
+        recv.take_into(rt, 8, &mut batch);
         found.add(&batch);
         if batch.is_empty() {
             thread::yield_now();
         }
+        batch.clear();
         if try_close(&mut recv) {
             found.closed = true;
             return Ok(found);

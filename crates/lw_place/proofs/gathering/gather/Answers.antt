@@ -1,9 +1,11 @@
-use Rattle.std.proofs.Common.{◌≡◌, ◌≤◌, List, length, ap, sym, subst, ◌∙◌, arith}
+use Rattle.std.proofs.Common.{◌≡◌, ◌≤◌, ◌<◌, ◌+◌, List, length, map, ap, sym, subst, ◌∙◌, arith}
 use Rattle.std.specs.Prelude.{slice_index_or}
-use Rattle.lw_place.specs.PlaceTable.{StandsAt}
+use Rattle.lw_place.specs.PlaceTable.{times, StandsAt}
+use Rattle.lw_place.specs.declared.place.Place.TheVariants as place
+use Rattle.lw_place.specs.declared.place.Place.{Place}
 use Rattle.lw_place.specs.declared.table.Stand.{Stand}
-use Rattle.lw_place.specs.PlaceSeats.{BundleEnd, places_of}
-use Rattle.lw_place.proofs.Gathers.{same_places, gathers, all_stand, ends_there}
+use Rattle.lw_place.specs.PlaceSeats.{BundleEnd, places_of, stand}
+use Rattle.lw_place.proofs.Gathers.{same_places, gathers, all_stand, all_seats, times_among, ends_there}
 use Rattle.lw_place.proofs.gathering.gather.Goals as goal
 
 pub join_threads-whole-requires : goal.join_threads-whole-requires
@@ -50,3 +52,23 @@ returns-clause-halted c =
     let told = c.halted-halted.ensures.all (ap (λ (e : BundleEnd). e.view.desks) same ∙ g.desks ∙ sym (ap (λ (e : BundleEnd). e.view.reactors) same)) in
     let is = ap (λ (e : BundleEnd). e.view.halted) same ∙ g.halted in
     ((λ yes. subst (λ n. 1 ≤ n) is (told.0 yes)), λ no. sym is ∙ told.1 no)
+
+pub returns-clause-seats : goal.returns-clause-seats
+returns-clause-seats c =
+    let w = c.join_threads-whole.result in
+    let g = gathers c.args.threads.items c.args.desks.items c.join_desks.result w c.requires c.join_desks.ensures.of c.join_desks.ensures.holds c.join_threads-whole.ensures in
+    let d = c.done-done.ensures in
+    all_seats c.args.threads.items c.args.desks.items w c.requires g (all_stand c.args.threads.items c.args.desks.items w c.done-done.result c.requires g d.all d.seen d.few)
+
+pub returns-clause-once : goal.returns-clause-once
+returns-clause-once c = λ t l.
+    let w = c.join_threads-whole.result in
+    let g = gathers c.args.threads.items c.args.desks.items c.join_desks.result w c.requires c.join_desks.ensures.of c.join_desks.ensures.holds c.join_threads-whole.ensures in
+    let d = c.done-done.ensures in
+    let now = ap (λ (e : BundleEnd). e.view.stands) (c.halted-halted.ensures.same ∙ d.same) ∙ g.stands in
+    let threads = ap (λ (e : BundleEnd). e.view.threads) (c.halted-halted.ensures.same ∙ d.same) in
+    let p : Place = place.Ended in
+    let at = subst (λ (xs : List Stand). StandsAt xs t (slice_index_or c.in_ok-places.places.items t p)) now (c.in_ok-places.ensures.each t p (let n = c.in_ok-places.ensures.count in omega arith)) in
+    let some_there = times_among t (slice_index_or c.in_ok-places.places.items t p) (map stand c.args.threads.items) at.among in
+    let at_most = subst (λ (xs : List Stand). times t xs ≤ 1) g.stands (d.once t (let n = c.in_ok-places.ensures.count in omega arith)) in
+    omega arith

@@ -1,5 +1,5 @@
 use Rattle.std.proofs.Common.{Some}
 use Rattle.lw_ring.proofs.making.open_ring.Given as goal
 
-abbrev pub ghosts-open : goal.ghosts-open
-ghosts-open g a = record { number = a._number; family = Some g.family }
+abbrev pub ghosts-open_ring_as : goal.ghosts-open_ring_as
+ghosts-open_ring_as g a = record { number = a.number; family = Some g.family }

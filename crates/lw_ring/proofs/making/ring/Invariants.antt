@@ -1,5 +1,5 @@
 use Rattle.std.proofs.Common.{Some}
 use Rattle.lw_ring.proofs.making.ring.Given as goal
 
-abbrev pub ghosts-latched : goal.ghosts-latched
-ghosts-latched g a = record { number = a._number; family = Some g.family }
+abbrev pub ghosts-ring_as : goal.ghosts-ring_as
+ghosts-ring_as g a = record { number = a.number; family = Some g.family }

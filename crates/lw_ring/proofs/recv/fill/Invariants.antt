@@ -1,13 +1,13 @@
-use Rattle.std.proofs.Common.{◌≡◌, ◌<◌, ◌≤◌, ◌++◌, length, map, vec_capacity}
+use Rattle.std.proofs.Common.{◌≡◌, ◌++◌, ◌<◌, ◌≤◌, [], length, reverse, vec_capacity, All}
 use Rattle.crossbeam_queue.specs.SegTies.{IsSegPassOf}
-use Rattle.lw_ring.specs.Calls.{AllFit}
+use Rattle.lw_ring.specs.Queue.{TakenOff}
 use Rattle.lw_ring.proofs.recv.fill.Given as goal
 
 abbrev pub invariant-loop : goal.invariant-loop
 invariant-loop g l =
     IsSegPassOf l.queue l.pass
-    × (l.pass.me.view.client ≡ record l.initial.pass.me.view.client { got = l.initial.pass.me.view.client.got ++ map g.T.Tagged.letter l.batch.items })
-    × AllFit g.T.Tagged.letter g.T.Tagged.tag_of g.T.Tagged.fits l.initial.pass.me.view.client.number l.initial.pass.me.view.client.family l.initial.pass.me.view.client.made l.batch.items
-    × (length l.batch.items ≡ l.counter)
+    × TakenOff g.T.Tagged.letter g.T.Tagged.tag_of g.T.Tagged.fits l.initial.pass.me.view.client l.pass.me.view.client (l.initial.batch.items ++ reverse l.initial.hand.items) (l.batch.items ++ reverse l.hand.items)
+    × (length l.batch.items ≤ l.initial.max)
     × (l.initial.max ≤ vec_capacity l.batch)
-    × (length l.pass.me.view.client.got < 140737488355328)
+    × (length l.batch.items < l.initial.max → l.hand.items ≡ [])
+    × All (λ v. v.items ≡ []) l.spares.items

@@ -1,8 +1,8 @@
-use Rattle.std.proofs.Common.{rules, ◌≡◌, ◌<◌, List, ◌++◌, length, map, get_or, sym, ap, ◌∙◌, arith, length-append}
+use Rattle.std.proofs.Common.{rules, ◌≡◌, ◌<◌, List, ◌++◌, length, map, get_or, sym, ap, ◌∙◌, subst, arith, length-append}
 use Rattle.std.proofs.lemmas.List.{length-map}
 use Rattle.lw_ring.specs.declared.settling.Pair.{Pair}
 use Rattle.lw_ring.specs.Ends.{Receiver}
-use Rattle.lw_base.specs.Letters.{sent_by, list_at}
+use Rattle.lw_base.specs.Letters.{sent_by, list_at, Numbered}
 use Rattle.lw_ring.specs.Settling.{all_sent, whole}
 use Rattle.lw_ring.proofs.Counts.{sent_by-append}
 use Rattle.lw_ring.proofs.Settles.{kept, whole_at, pair_is}
@@ -70,3 +70,13 @@ returns-clause-counts g c =
     let mine = ap (λ ls. length (sent_by tag_of k ls)) taken in
     let off_run = off.1 in
     ap (λ ps. get_or ps k d) whole_row ∙ pair_is (get_or new k d) (length (list_at sent k)) (length (sent_by tag_of k c.args.recv.taken)) (length (sent_by tag_of k (map letter left))) (off.0 ∙ ap (λ (p : Pair). p.sent) pair) (omega arith))
+
+pub returns-clause-numbered : goal.returns-clause-numbered
+returns-clause-numbered g c = λ k l.
+    let R : Type 0 = Receiver g.row.T-Letter.Denot g.row.T-Family.Denot in
+    let sent : List (List g.row.T-Letter.Denot) = all_sent c.args.ends.items in
+    let all : c.in_ok-recv.recv.known ≡ sent = ap (λ (r : R). r.known) c.in_ok-recv.ensures.recv in
+    let size = length-map c.args.ends.items (λ e. e.sent) in
+    let same = ap length all in
+    let count = c.requires.all.0 in
+    subst (λ ks. Numbered g.T.Tagged.tag_of k (list_at ks k)) all (c.in_ok-recv.ensures.numbered k (omega arith))

@@ -1,5 +1,0 @@
-use Rattle.std.proofs.Common.{◌≡◌}
-use Rattle.lw_place.proofs.tests.look_often.Given as goal
-
-abbrev pub invariant-loop : goal.invariant-loop
-invariant-loop l = (l.desk.places ≡ l.initial.desk.places) × (l.desk.retired ≡ l.initial.desk.retired) × (l.desk.halted ≡ l.initial.desk.halted)

@@ -1,0 +1,22 @@
+use Rattle.std.proofs.Common.{rules, ◌≡◌, List, [], ◌++◌, reverse, sym, ap, ◌∙◌}
+use Rattle.std.proofs.lemmas.List.{append-nil}
+use Rattle.lw_ring.specs.Queue.{contents}
+use Rattle.lw_ring.proofs.Handing.{one_off}
+use Rattle.lw_ring.proofs.recv.fill.Goals as goal
+
+pub loop-preserved : goal.loop-preserved
+loop-preserved g c =
+    let i = c.loop.invariant in
+    let u = c.unpack.ensures in
+    let parcel = c.in-Some-pop.parcel in
+    let batch : List g.row.T.Denot = c.loop.batch.items in
+    let none : c.loop.hand.items ≡ [] = i.4 (search rules) in
+    let was : batch ++ contents parcel ≡ (batch ++ reverse c.loop.hand.items) ++ contents parcel =
+    ap (λ l. l ++ contents parcel) (sym (append-nil batch) ∙ ap (λ (l : List g.row.T.Denot). batch ++ reverse l) (sym none)) in (
+      search rules,
+      one_off g.T.Tagged.letter g.T.Tagged.tag_of g.T.Tagged.fits _ _ _ parcel _ _ _ i.1 c.in-Some-pop.ensures.told (u.items ∙ was),
+      u.room.0,
+      u.room.1,
+      u.all,
+      u.spares,
+    )

@@ -1,0 +1,8 @@
+use Rattle.std.proofs.Common.{◌≡◌, ◌++◌, ◌≤◌, length, reverse, vec_capacity}
+use Rattle.lw_ring.proofs.recv.hand_out.Given as goal
+
+abbrev pub invariant-loop : goal.invariant-loop
+invariant-loop g l =
+    (l.batch.items ++ reverse l.hand.items ≡ l.initial.batch.items ++ reverse l.initial.hand.items)
+    × (length l.batch.items ≡ l.counter)
+    × (l.initial.max ≤ vec_capacity l.batch)

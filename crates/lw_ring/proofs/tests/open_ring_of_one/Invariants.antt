@@ -1,4 +1,0 @@
-use Rattle.lw_ring.proofs.tests.open_ring_of_one.Given as goal
-
-abbrev pub ghost-open_ring : goal.ghost-open_ring
-ghost-open_ring a = tt

@@ -1,0 +1,157 @@
+//! Where light threads stand.
+ghost use Rattle.std.specs.Prelude.{◌≡◌, ◌≢◌, ◌<◌, ◌∷◌, [], IfOk};
+ghost use Rattle.lw_place.specs.PlaceSeats.{new_desk};
+
+use lw_base::NoMemory;
+use lw_place::{DeskSeat, Place, ThreadSeat, Whole, gather, places};
+use std::alloc::Global;
+use std::test::Fail;
+use std::thread;
+
+// The places of three threads over two reactors, gathered at once.
+fn at_home(alloc: Global) -> Result<Whole, NoMemory> {
+    let (threads, desks) = places(alloc, 3, 2)?;
+    gather(alloc, threads, desks)
+}
+
+#[test]
+fn threads_start_at_their_homes(rt: HostRuntime) -> Result<(), Fail> {
+    let whole = at_home(rt.alloc())?;
+    let wanted = [Place::List(0), Place::List(1), Place::List(0)];
+    assert!(rt; whole.places.as_slice() == wanted.as_slice());
+    assert!(rt; whole.done == 0 && !whole.halted);
+    Ok(())
+}
+
+// One thread, at home, and the desk of its reactor.
+fn one_of_each(alloc: Global) -> Result<(ThreadSeat, DeskSeat), NoMemory>
+    ensures thread { IfOk result (λ r. r.0 ≡ record { places = r.1.places; thread = 0; place = Place.List 0 }) }
+    ensures desk { IfOk result (λ r. r.1 ≡ new_desk r.1.places) }
+    ensures counts { IfOk result (λ r. (r.1.places.threads ≡ 1) × (r.1.places.reactors ≡ 1)) }
+{
+    let (mut threads, mut desks) = places(alloc, 1, 1)?;
+    let desk = desks.pop().unwrap();
+    let thread = threads.pop().unwrap();
+    Ok((thread, desk))
+}
+
+// Gathers an ended thread and the desk that retired it, if the desk sees that all threads are retired.
+fn gather_ended(
+    alloc: Global,
+    thread: ThreadSeat,
+    mut desk: DeskSeat,
+) -> Result<Option<Whole>, NoMemory>
+    requires { (thread.places ≡ desk.places) × (thread.place ≡ Place.Ended)
+        × (desk.retired ≡ 1) × (desk.places.reactors ≡ 1) × (desk.places.threads ≡ 1) }
+{
+    if desk.look_done() != 1 {
+        return Ok(None);
+    }
+    let mut threads = Vec::new(alloc);
+    threads.push(thread)?;
+    let mut desks = Vec::new(alloc);
+    desks.push(desk)?;
+    Ok(Some(gather(alloc, threads, desks)?))
+}
+
+#[test]
+fn a_thread_goes_its_way_and_the_desk_sees_it(rt: HostRuntime) -> Result<(), Fail> {
+    let (mut thread, mut desk) = one_of_each(rt.alloc())?;
+    assert!(rt; thread.thread() == 0 && desk.look(0) == Place::List(0));
+    thread.leave_for(0);
+    assert!(rt; desk.look(0) == Place::Event(0));
+    thread.arrive();
+    assert!(rt; desk.look(0) == Place::List(0) && desk.look_done() == 0);
+    thread.end();
+    desk.retire();
+    assert!(rt; thread.place() == Place::Ended && desk.look(0) == Place::Ended);
+    assert!(rt; !desk.halted());
+    desk.halt();
+    assert!(rt; desk.halted());
+    let Some(whole) = gather_ended(rt.alloc(), thread, desk)? else {
+        panic!(rt; "the desk did not see its own thread")
+    };
+    assert!(rt; whole.places.as_slice() == [Place::Ended].as_slice());
+    assert!(rt; whole.done == 1 && whole.halted);
+    Ok(())
+}
+
+// The seats and desks of two threads over two reactors.
+fn two_of_each(alloc: Global) -> Result<(ThreadSeat, ThreadSeat, DeskSeat, DeskSeat), NoMemory>
+    ensures first { IfOk result (λ r. r.0 ≡ record { places = r.2.places; thread = 0; place = Place.List 0 }) }
+    ensures second { IfOk result (λ r. r.1 ≡ record { places = r.2.places; thread = 1; place = Place.List 1 }) }
+    ensures desks { IfOk result (λ r. (r.2 ≡ new_desk r.2.places) × (r.3 ≡ new_desk r.2.places)) }
+    ensures counts { IfOk result (λ r. (r.2.places.threads ≡ 2) × (r.2.places.reactors ≡ 2)) }
+{
+    let (mut threads, mut desks) = places(alloc, 2, 2)?;
+    let other_desk = desks.pop().unwrap();
+    let desk = desks.pop().unwrap();
+    let other = threads.pop().unwrap();
+    let thread = threads.pop().unwrap();
+    Ok((thread, other, desk, other_desk))
+}
+
+// Looks at a thread and at the count, many times.
+fn look_often(desk: &mut DeskSeat, thread: u32)
+    requires { thread < desk.old.places.threads }
+    ensures { (desk.new.places ≡ desk.old.places) × (desk.new.retired ≡ desk.old.retired)
+        × (desk.new.halted ≡ desk.old.halted) }
+{
+    for _ in 0..1000 {
+        let _place = desk.look(thread);
+        let _done = desk.look_done();
+    }
+}
+
+// A thread goes to reactor 1 and to reactor 0, and ends, while its desk looks at another thread.
+fn goes_and_looks(mut thread: ThreadSeat, mut desk: DeskSeat, other: u32) -> (ThreadSeat, DeskSeat)
+    requires thread { (thread.place ≢ Place.Ended) × (thread.places.reactors ≡ 2) }
+    requires desk { (desk.retired ≡ 0) × (desk.halted ≡ 0) × (other < desk.places.threads) }
+    ensures thread { result.0 ≡ record thread { place = Place.Ended } }
+    ensures desk { (result.1.places ≡ desk.places) × (result.1.retired ≡ 1) × (result.1.halted ≡ 0) }
+{
+    thread.leave_for(1);
+    look_often(&mut desk, other);
+    thread.arrive();
+    thread.leave_for(0);
+    look_often(&mut desk, other);
+    thread.arrive();
+    thread.end();
+    desk.retire();
+    look_often(&mut desk, other);
+    (thread, desk)
+}
+
+// Gathers both threads and both desks.
+fn gather_two(
+    alloc: Global,
+    thread: ThreadSeat,
+    other: ThreadSeat,
+    desk: DeskSeat,
+    other_desk: DeskSeat,
+) -> Result<Whole, NoMemory>
+    requires one_table { (thread.places ≡ desk.places) × (other.places ≡ desk.places) × (other_desk.places ≡ desk.places) }
+    requires counts { (desk.places.threads ≡ 2) × (desk.places.reactors ≡ 2) }
+{
+    let mut threads = Vec::new(alloc);
+    threads.push(thread)?;
+    threads.push(other)?;
+    let mut desks = Vec::new(alloc);
+    desks.push(desk)?;
+    desks.push(other_desk)?;
+    gather(alloc, threads, desks)
+}
+
+#[test]
+fn two_machine_threads_move_end_and_look_at_each_other(rt: HostRuntime) -> Result<(), Fail> {
+    let (a, b, desk_a, desk_b) = two_of_each(rt.alloc())?;
+    let ((a, desk_a), (b, desk_b)) = thread::join(
+        &rt,
+        move || goes_and_looks(a, desk_a, 1),
+        move || goes_and_looks(b, desk_b, 0),
+    );
+    let whole = gather_two(rt.alloc(), a, b, desk_a, desk_b)?;
+    assert!(rt; whole.places.as_slice() == [Place::Ended, Place::Ended].as_slice());
+    assert!(rt; whole.done == 2 && !whole.halted);
+    Ok(())
+}
