@@ -5,7 +5,7 @@ use Rattle.lw_base.specs.Outside.{Rose}
 use Rattle.lw_walk.specs.Walk.{walk_bad_line}
 use Rattle.lw_model.specs.declared.record.Record.{Record}
 use Rattle.lw_model.specs.declared.refusal.ScriptRefusal.{ScriptRefusal}
-use Rattle.lw_model.specs.Served.{run_refusal}
+use Rattle.lw_script.specs.Served.{run_refusal}
 use Rattle.lw_target.specs.declared.options.Options.{Options}
 use Rattle.lw_judge.specs.declared.answer.Verdict.TheVariants as verdict
 use Rattle.lw_judge.specs.Reports.{report_limit, IsLawfulReport, IsUnlawfulReport}

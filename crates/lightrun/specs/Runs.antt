@@ -6,7 +6,7 @@ use Rattle.lw_model.specs.declared.refusal.ScriptRefusal.TheVariants as refusal
 use Rattle.lw_model.specs.Lawful.{Lawful}
 use Rattle.lw_model.specs.ReportText.{text_of}
 use Rattle.lw_model.specs.ScriptText.{script_of}
-use Rattle.lw_model.specs.Served.{run_refusal}
+use Rattle.lw_script.specs.Served.{run_refusal}
 use Rattle.lw_target.specs.declared.options.Options.{Options}
 use Rattle.lightrun.specs.declared.fault.Fault.{Fault}
 use Rattle.lightrun.specs.declared.fault.Fault.TheVariants.{Script}

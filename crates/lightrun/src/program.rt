@@ -1,7 +1,7 @@
 //! The top call: what the words ask for, over a source, a sink, clocks and a gate.
 ghost use Rattle.std.specs.Prelude.{◌≡◌, ◌≢◌, ◌≤◌, ◌↔◌, ◌⊎◌, ℕ, List, Some, None, map, string_bytes, vec_len, IfOk, IfSome};
 ghost use Rattle.lw_base.specs.Outside.{Rose};
-ghost use Rattle.lw_model.specs.Served.{run_refusal};
+ghost use Rattle.lw_script.specs.Served.{run_refusal};
 ghost use Rattle.lightrun.specs.Words.{command_of};
 ghost use Rattle.lightrun.specs.Served.{Serves};
 ghost use Rattle.lightrun.specs.Runs.{run_work};

@@ -1,3 +1,4 @@
 mod Pieces
 mod Readings
 pub mod Totals
+pub mod TextLines

@@ -2,3 +2,4 @@ pub mod Outside
 pub mod Memory
 pub mod Letters
 pub mod Totals
+pub mod TextLines

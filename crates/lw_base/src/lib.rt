@@ -7,8 +7,6 @@ mod names;
 mod naming;
 mod outside;
 mod tagged;
-#[cfg(test)]
-mod tests;
 
 pub use memory::{ListClock, MemSink, MemSource, OpenGate};
 pub use message::{Mark, Tag, What};

@@ -13,6 +13,7 @@ use borrow.Rule.Slice.PartMut.{put_mid}
 use Rattle.lw_model.specs.declared.script.Op.{Op}
 use Rattle.lw_model.specs.declared.script.Op.TheVariants as op
 use Rattle.lw_model.specs.Replay.{byte_after, covers, is_write}
+use Rattle.lw_model.proofs.Blocks.{before_part, in_part, behind_part}
 
 -- a part of a list of numbers, told index by index
 pub between_told : (xs : List ℕ) (f : ℕ → ℕ) (first n : ℕ) → first + n ≤ length xs
@@ -22,15 +23,6 @@ between_told xs f first n h told =
     same_number_lists _ _ (size ∙ sym (length-map-range_with_len f first n))
     (λ k below. get_or-between xs first (first + n) k 0 (omega arith) ∙ told (first + k) (omega arith)
     ∙ sym (get_or-map-range_with_len f first n k (first + k) 0 (omega arith) refl))
-
-before_part : (xs ys : List ℕ) (a k x : ℕ) → a + k ≤ length xs → length ys ≡ k → x < a → get_or (put_mid a k xs ys) x 0 ≡ get_or xs x 0
-before_part xs ys a k x h e b = search (arith, rules, places)
-
-in_part : (xs ys : List ℕ) (a k x : ℕ) → a + k ≤ length xs → length ys ≡ k → a ≤ x → x < a + k → get_or (put_mid a k xs ys) x 0 ≡ get_or ys (x - a) 0
-in_part xs ys a k x h e b t = search (arith, rules, places)
-
-behind_part : (xs ys : List ℕ) (a k x : ℕ) → a + k ≤ length xs → length ys ≡ k → a + k ≤ x → get_or (put_mid a k xs ys) x 0 ≡ get_or xs x 0
-behind_part xs ys a k x h e b = search (arith, rules, places)
 
 -- whether a write covers a byte, by where its range begins and how long it is
 covered : (block start count a k x : ℕ) → a ≡ start * block → k ≡ count * block → a ≤ x → x < a + k → covers block start count x ≡ true

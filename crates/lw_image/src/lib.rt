@@ -3,7 +3,5 @@
 
 mod fill;
 mod image;
-#[cfg(test)]
-mod tests;
 
 pub use image::Image;

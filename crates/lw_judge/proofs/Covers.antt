@@ -3,15 +3,7 @@ use Rattle.std.proofs.Common.{◌≡◌, ℕ, ◌+◌, ◌-◌, ◌<◌, ◌≤�
 use Rattle.std.proofs.lemmas.List.{places, get_or-replicate, length-replicate}
 use Rattle.std.proofs.lemmas.Bool.{cases_lt, le-leb, lt-leb, lt-ltb, le-ltb, and_left, and_right, and_from}
 use borrow.Rule.Slice.PartMut.{put_mid}
-
-before_part : (xs ys : List ℕ) (a k x : ℕ) → a + k ≤ length xs → length ys ≡ k → x < a → get_or (put_mid a k xs ys) x 0 ≡ get_or xs x 0
-before_part xs ys a k x h e b = search (arith, rules, places)
-
-in_part : (xs ys : List ℕ) (a k x : ℕ) → a + k ≤ length xs → length ys ≡ k → a ≤ x → x < a + k → get_or (put_mid a k xs ys) x 0 ≡ get_or ys (x - a) 0
-in_part xs ys a k x h e b t = search (arith, rules, places)
-
-behind_part : (xs ys : List ℕ) (a k x : ℕ) → a + k ≤ length xs → length ys ≡ k → a + k ≤ x → get_or (put_mid a k xs ys) x 0 ≡ get_or xs x 0
-behind_part xs ys a k x h e b = search (arith, rules, places)
+use Rattle.lw_model.proofs.Blocks.{before_part, in_part, behind_part}
 
 pub covered : (xs ys : List ℕ) (start count first end number : ℕ) → end ≡ min (start + count) (length xs) → first ≡ min start end → ys ≡ replicate (end - first) number
     → (b : ℕ) → b < length xs → get_or (put_mid first (end - first) xs ys) b 0 ≡ cond (nat_le start b && nat_lt b (start + count)) number (get_or xs b 0)

@@ -21,7 +21,6 @@ mod InOrder
 mod LastWrites
 mod Layouts
 mod Leasts
-mod LineRanges
 mod Named
 mod NothingOwed
 mod Numbered
@@ -36,7 +35,6 @@ mod Requests
 mod RuleAfterRule
 mod RunTokens
 mod RunnerLists
-mod SameRecords
 mod SeenTests
 mod SendSteps
 mod SenderCounts
@@ -53,5 +51,4 @@ mod VisitThreads
 mod WalkSteps
 mod Wanted
 mod WhatStands
-mod WholeRanges
 mod Written

@@ -11,23 +11,15 @@ use Rattle.lw_model.specs.declared.record.Record.{Record}
 use Rattle.lw_model.specs.ScriptRules.{has_names, names_an_image, all_ops, rule_broken}
 use Rattle.lw_model.specs.Threads.{op_at}
 use Rattle.lw_model.proofs.Rules.{names-kept}
+use Rattle.lw_model.proofs.Passing.{item_passes}
 
 none_from : (o : Option ScriptRefusal) → is_none o ≡ true → o ≡ None
 none_from None is = refl
 none_from (Some x) is = absurd (true≢false (sym is))
 
--- an item of a list whose items all pass
-passed : {X : Type 0} (p : X → Bool) (xs : List X) (k : ℕ) (x : X) → list_all p xs ≡ true → slice_get xs k ≡ Some x → p x ≡ true
-passed p [] k x all at = cc
-passed p (y ∷ xs) zero x all at = ap p (sym (some_same at)) ∙ (and_parts (p y) (list_all p xs) all).0
-  where
-    some_same : Some y ≡ Some x → y ≡ x
-    some_same e = cc
-passed p (y ∷ xs) (suc k) x all at = passed p xs k x (and_parts (p y) (list_all p xs) all).1 at
-
 of_client : (p : Op → Bool) (cs : List ClientOf) (c k : ℕ) (o : Op) → list_all p (flat_map (λ x. x.ops) cs) ≡ true → slice_get (unwrap_or (option_map (λ (x : ClientOf). x.ops) (slice_get cs c)) []) k ≡ Some o → p o ≡ true
 of_client p [] c k o all at = cc
-of_client p (x ∷ cs) zero k o all at = passed p x.ops k o (and_parts (list_all p x.ops) (list_all p (flat_map (λ y. y.ops) cs)) (sym (list_all-append p x.ops (flat_map (λ y. y.ops) cs)) ∙ all)).0 at
+of_client p (x ∷ cs) zero k o all at = item_passes p x.ops k o (and_parts (list_all p x.ops) (list_all p (flat_map (λ y. y.ops) cs)) (sym (list_all-append p x.ops (flat_map (λ y. y.ops) cs)) ∙ all)).0 at
 of_client p (x ∷ cs) (suc c) k o all at = of_client p cs c k o (and_parts (list_all p x.ops) (list_all p (flat_map (λ y. y.ops) cs)) (sym (list_all-append p x.ops (flat_map (λ y. y.ops) cs)) ∙ all)).1 at
 
 ops_named : (s : Script) → has_names s ≡ true → list_all (names_an_image s) (all_ops s) ≡ true

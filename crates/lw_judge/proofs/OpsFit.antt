@@ -13,7 +13,7 @@ use Rattle.lw_model.specs.declared.record.Record.{Record}
 use Rattle.lw_model.specs.declared.refusal.ScriptRefusal.{ScriptRefusal}
 use Rattle.lw_model.specs.declared.refusal.ScriptRefusal.TheVariants.{Limit, Range}
 use Rattle.lw_model.specs.ScriptRules.{Placed, placed_ops, with_earlier, first_out_of_range, is_in_range, is_in_range_after, is_in_image, is_among, read_bytes, rule_broken, rule_answers, has_client_count, has_image_sizes, block_at, blocks_at}
-use Rattle.lw_model.proofs.Rules.{each-none, kept, block_sizes-kept}
+use Rattle.lw_model.proofs.Rules.{each-none, kept, block_sizes-kept, each_passes}
 use Rattle.lw_model.proofs.Printed.{parts}
 use Rattle.lw_judge.specs.Answered.{IsReadable, ReadsFit}
 
@@ -61,19 +61,6 @@ pub blocks_are : (s : Script) (d : ℕ) (image : ImageOf) → slice_get s.images
 blocks_are s d image at = sym (ap (λ (o : Option ImageOf). unwrap_or (option_map (λ (i : ImageOf). i.blocks) o) 0) at)
 
 -- ---- Ops
-
--- where no op fails a test, each passes it behind some others
-each_passes : (test : List Op → Op → Bool) (Q : Op → Type 0) → ((before : List Op) (o : Op) → test before o ≡ true → Q o) → (before ps : List Placed)
-    → find (λ p. not (test (map (λ q. q.op) p.0) p.1.op)) (with_earlier before ps) ≡ None → AllByRecursion (λ (p : Placed). Q p.op) ps
-each_passes test Q means before [] none = tt
-each_passes test Q means before (p ∷ ps) none = at (test (map (λ q. q.op) before) p.op) (means (map (λ q. q.op) before) p.op) (each_passes test Q means (before ++ p ∷ []) ps) none
-  where
-    rest : Option (List Placed × Placed)
-    rest = find (λ p. not (test (map (λ q. q.op) p.0) p.1.op)) (with_earlier (before ++ p ∷ []) ps)
-
-    at : (b : Bool) → (b ≡ true → Q p.op) → (rest ≡ None → AllByRecursion (λ (p : Placed). Q p.op) ps) → cond (not b) (Some (before, p)) rest ≡ None → AllByRecursion (λ (p : Placed). Q p.op) (p ∷ ps)
-    at true here later none = (here refl, later none)
-    at false here later none = cc
 
 all_left : {X : Type 0} (P : X → Type 0) (xs ys : List X) → AllByRecursion P (xs ++ ys) → AllByRecursion P xs
 all_left P [] ys all = tt

@@ -29,6 +29,9 @@ use Rattle.lw_judge.specs.RanSent.{ran_fits, count_from, runs_enough, runs_token
 use Rattle.lw_judge.proofs.Added.{cond-nil}
 use Rattle.lw_judge.proofs.Leasts.{least-cons, least-each_line}
 use Rattle.lw_judge.proofs.Threads.{listed}
+use Rattle.lw_model.proofs.Passing.{list_all-same}
+use Rattle.lw_model.proofs.ExactSent.{sent-none}
+use Rattle.std.proofs.lemmas.List.Folds.{list_all-map}
 
 -- the tests of thread t
 abbrev pub tests_of : Record → ℕ → List Test
@@ -36,36 +39,11 @@ tests_of r t = (thread_line r t, lacks_none r t) ∷ each_line (ran_line r t) (�
 
 -- ---- tests that answer alike
 
-all_alike : {X : Type 0} (p q : X → Bool) → ((x : X) → p x ≡ q x) → (xs : List X) → list_all p xs ≡ list_all q xs
-all_alike p q alike [] = refl
-all_alike p q alike (x ∷ xs) = ap₂ (λ a b. a && b) (alike x) (all_alike p q alike xs)
-
-all-map : {X Y : Type 0} (p : Y → Bool) (f : X → Y) (xs : List X) → list_all p (map f xs) ≡ list_all (λ x. p (f x)) xs
-all-map p f [] = refl
-all-map p f (x ∷ xs) = ap (λ b. p (f x) && b) (all-map p f xs)
-
 unfit_alike : {X : Type 0} (f g : List X → X → Bool) → ((past : List X) (x : X) → f past x ≡ g past x) → (n : ℕ) (past xs : List X) → first_unfit f n past xs ≡ first_unfit g n past xs
 unfit_alike f g alike n past [] = refl
 unfit_alike f g alike n past (x ∷ xs) = ap₂ (λ b o. cond b o (Some n)) (alike past x) (unfit_alike f g alike (n + 1) (x ∷ past) xs)
 
 -- ---- what is no thread sends nothing
-
-nothing_of : {X : Type 0} (f : ThreadRecord → List X) (o : Option ThreadRecord) → o ≡ None → unwrap_or (option_map f o) [] ≡ []
-nothing_of f None e = refl
-nothing_of f (Some x) e = cc
-
-last_none : (s : Script) (t : ℕ) → thread_count s ≤ t → sent_last s t ≡ []
-last_none s t past =
-    let no_client : (nat_lt 0 t && nat_le t (length s.clients)) ≡ false = and_right (nat_lt 0 t) (nat_le t (length s.clients)) (lt-leb t (length s.clients) (omega arith)) in
-    let no_app : (t == 0) ≡ false = ne_eqb t 0 (omega arith) in
-    rw no_client (rw no_app refl)
-
-sent_none : (r : Record) (s t : ℕ) → thread_count r.script ≤ s → sent r s t ≡ []
-sent_none r s t past =
-    let absent : slice_get r.threads s ≡ None = slice_get_past r.threads s (omega (arith, past, (parts r).threads)) in
-    let idle : own_order_of r s ≡ [] = nothing_of own_order (slice_get r.threads s) absent in
-    ap (λ w. map (λ (p : ℕ × What). p.1) (filter (λ p. p.0 == t) (flat_map (λ p. sent_by r s p.0 p.1) (with_past [] w) ++ sent_last r.script s))) idle
-    ∙ ap (λ w. map (λ (p : ℕ × What). p.1) (filter (λ p. p.0 == t) w)) (last_none r.script s past)
 
 none_kept : {X Z : Type 0} (vs : List (Vec X Z)) (i : ℕ) → length vs ≤ i → items_at vs i ≡ []
 none_kept {X} {Z} vs i past = ap (λ (o : Option (Vec X Z)). elim o as (λ q. List X) [ None ↦ [] | Some v ↦ v.items ]) (slice_get_past vs i past)
@@ -81,7 +59,7 @@ module _ (r : Record) (x : Sends) (are : AreSendsAt r (thread_count r.script) []
   list-is : (q t : ℕ) → t < thread_count r.script → list_at x q t ≡ sent r q t
   list-is q t there = elim (cases_lt q (thread_count r.script)) [
     | inl known ↦ are.lists q t known there ∙ ap (λ b. cond b (sent r q t) (cond (q == thread_count r.script) [] [])) (lt-ltb q (thread_count r.script) known)
-    | inr unknown ↦ ap (λ l. items_at l t) (none_kept x.lists.items q (omega (arith, unknown, are.sized.count))) ∙ sym (sent_none r q t unknown)
+    | inr unknown ↦ ap (λ l. items_at l t) (none_kept x.lists.items q (omega (arith, unknown, are.sized.count))) ∙ sym (sent-none r q t unknown)
   ]
 
   tokens-are : map what_of x.tokens.items ≡ tokens r
@@ -92,7 +70,7 @@ module _ (r : Record) (x : Sends) (are : AreSendsAt r (thread_count r.script) []
 
   module _ (t : ℕ) (there : t < thread_count r.script) where
     enough-is : runs_enough x (thread_count r.script) t (ran_of r t) ≡ list_all (λ s. nat_le (length (sent r s t)) (length (run_of r s t))) (threads r.script)
-    enough-is = all_alike (λ s. nat_le (length (list_at x s t)) (count_from (ran_of r t) s)) (λ s. nat_le (length (sent r s t)) (length (run_of r s t)))
+    enough-is = list_all-same (λ s. nat_le (length (list_at x s t)) (count_from (ran_of r t) s)) (λ s. nat_le (length (sent r s t)) (length (run_of r s t)))
         (λ s. ap₂ (λ a b. nat_le a b) (ap length (list-is s t there)) (count s)) (threads r.script)
       where
         count : (s : ℕ) → count_from (ran_of r t) s ≡ length (run_of r s t)
@@ -101,7 +79,7 @@ module _ (r : Record) (x : Sends) (are : AreSendsAt r (thread_count r.script) []
     tokens_run : (ws : List Token) → ((p : Token → Bool) → list_all p ws ≡ list_all p x.tokens.items) → runs_tokens r t ws ≡ list_all (λ w. not (must_run r.script w t) || has_run r w t) (tokens r)
     tokens_run ws once =
         once (λ w. not (must_run r.script (what_of w) t) || has_run r (what_of w) t)
-        ∙ sym (all-map (λ w. not (must_run r.script w t) || has_run r w t) what_of x.tokens.items)
+        ∙ sym (list_all-map (λ w. not (must_run r.script w t) || has_run r w t) what_of x.tokens.items)
         ∙ ap (list_all (λ w. not (must_run r.script w t) || has_run r w t)) tokens-are
 
     pub lacks_none-is : (ws : List Token) → ((p : Token → Bool) → list_all p ws ≡ list_all p x.tokens.items) → (runs_enough x (thread_count r.script) t (ran_of r t) && runs_tokens r t ws) ≡ lacks_none r t

@@ -11,12 +11,12 @@ use Rattle.lw_report.specs.Report.{reading}
 use Rattle.lw_report.specs.Parsed.{IsStatic, contents_of}
 use Rattle.lw_report.proofs.TextsBack.{text_read}
 use Rattle.lw_report.proofs.WholeTexts.{told_text}
-use Rattle.lw_judge.proofs.WholeRanges.{read_in_range}
+use Rattle.lw_report.proofs.WholeRanges.{read_in_range}
 use Rattle.lw_judge.specs.declared.answer.Verdict.{Verdict}
 use Rattle.lw_judge.specs.declared.answer.Verdict.TheVariants.{Lawful, Unlawful}
 use Rattle.lw_judge.specs.Verdicts.{verdict_as}
 use Rattle.lw_judge.specs.Reports.{report_limit, IsReadingVerdict, IsReportVerdict, IsLawfulReport}
-use Rattle.lw_judge.proofs.SameRecords.{same_record}
+use Rattle.lw_report.proofs.SameRecords.{same_record}
 
 lawful_none : (o : Option (ℕ × ℕ)) → verdict_as o ≡ Lawful → o ≡ None
 lawful_none None e = refl

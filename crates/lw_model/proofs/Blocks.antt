@@ -1,9 +1,11 @@
 -- A byte of a read is told by the last write that covers its block, since writes are of whole blocks.
-use Rattle.std.proofs.Common.{◌≡◌, ℕ, suc, ◌+◌, ◌-◌, ◌*◌, ◌/◌, ◌%◌, ◌<◌, ◌≤◌, nat_lt, nat_le, Bool, true, false, cond, ◌&&◌, List, [], ◌∷◌, length, slice_index, Option, Some, None, refl, sym, ap, ap₂, ◌∙◌, inl, inr, arith, ◌↔◌, le-div_iff_mul-le, div-lt_iff_lt-mul}
+use Rattle.std.proofs.Common.{◌≡◌, ℕ, suc, ◌+◌, ◌-◌, ◌*◌, ◌/◌, ◌%◌, ◌<◌, ◌≤◌, nat_lt, nat_le, Bool, true, false, cond, ◌&&◌, List, [], ◌∷◌, length, slice_index, Option, Some, None, refl, sym, ap, ap₂, ◌∙◌, inl, inr, arith, ◌↔◌, le-div_iff_mul-le, div-lt_iff_lt-mul, rules, get_or}
 use Rattle.std.proofs.lemmas.Bool.{le-leb, lt-leb, cases_lt}
 use Rattle.lw_model.specs.declared.script.Op.{Op}
 use Rattle.lw_model.specs.declared.script.Op.TheVariants as op
 use Rattle.lw_model.specs.Replay.{covers, byte_after}
+use Rattle.std.proofs.lemmas.List.{places}
+use borrow.Rule.Slice.PartMut.{put_mid}
 
 -- the first block and the pattern of the last write that covers a block
 abbrev pub last_write : List (Option Op) → ℕ → Option (ℕ × List ℕ)
@@ -51,3 +53,14 @@ byte_after-block block (Some (op.Wait ticks) ∷ past) x pos = byte_after-block 
 byte_after-block block (Some (op.Visit d) ∷ past) x pos = byte_after-block block past x pos
 byte_after-block block (Some op.Each ∷ past) x pos = byte_after-block block past x pos
 byte_after-block block (Some (op.Unregister d) ∷ past) x pos = byte_after-block block past x pos
+
+-- ---- a list of bytes with a part put in
+
+pub before_part : (xs ys : List ℕ) (a k x : ℕ) → a + k ≤ length xs → length ys ≡ k → x < a → get_or (put_mid a k xs ys) x 0 ≡ get_or xs x 0
+before_part xs ys a k x h e b = search (arith, rules, places)
+
+pub in_part : (xs ys : List ℕ) (a k x : ℕ) → a + k ≤ length xs → length ys ≡ k → a ≤ x → x < a + k → get_or (put_mid a k xs ys) x 0 ≡ get_or ys (x - a) 0
+in_part xs ys a k x h e b t = search (arith, rules, places)
+
+pub behind_part : (xs ys : List ℕ) (a k x : ℕ) → a + k ≤ length xs → length ys ≡ k → a + k ≤ x → get_or (put_mid a k xs ys) x 0 ≡ get_or xs x 0
+behind_part xs ys a k x h e b = search (arith, rules, places)

@@ -100,7 +100,7 @@ ascending-in_order [] = tt
 ascending-in_order (s ∷ ss) = ascending-put_in s (in_order ss) (ascending-in_order ss)
 
 -- a step goes before all that are not earlier
-put_first : (s : Step) (xs : List Step) → AllByRecursion (λ x. at_of s ≤ at_of x) xs → put_in s xs ≡ s ∷ xs
+pub put_first : (s : Step) (xs : List Step) → AllByRecursion (λ x. at_of s ≤ at_of x) xs → put_in s xs ≡ s ∷ xs
 put_first s [] h = refl
 put_first s (x ∷ xs) h = ap (λ b. cond b (s ∷ x ∷ xs) (x ∷ put_in s xs)) (le-leb (at_of s) (at_of x) h.0)
 

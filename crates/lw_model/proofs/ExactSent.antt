@@ -113,17 +113,17 @@ module _ (S : ℕ → List What) where
       (back (m ∷ past) rest n.1 (λ s. step_back (m.sender == s) (from s past) (from s (m ∷ past)) (S s) (runs_of s rest) m.what (from-cons s m past) (sym (runs-cons s m rest) ∙ same s)))
 
 -- a thread that is not there sends nothing
-of_none : {X : Type 0} (f : ThreadRecord → List X) (o : Option ThreadRecord) → o ≡ None → unwrap_or (option_map f o) [] ≡ []
+pub of_none : {X : Type 0} (f : ThreadRecord → List X) (o : Option ThreadRecord) → o ≡ None → unwrap_or (option_map f o) [] ≡ []
 of_none f None e = refl
 of_none f (Some x) e = cc
 
-last_none : (s : Script) (t : ℕ) → thread_count s ≤ t → sent_last s t ≡ []
+pub last_none : (s : Script) (t : ℕ) → thread_count s ≤ t → sent_last s t ≡ []
 last_none s t past =
     let no_client : (nat_lt 0 t && nat_le t (length s.clients)) ≡ false = and_right (nat_lt 0 t) (nat_le t (length s.clients)) (lt-leb t (length s.clients) (omega arith)) in
     let no_app : (t == 0) ≡ false = ne_eqb t 0 (omega arith) in
     rw no_client (rw no_app refl)
 
-sent-none : (r : Record) (s t : ℕ) → thread_count r.script ≤ s → sent r s t ≡ []
+pub sent-none : (r : Record) (s t : ℕ) → thread_count r.script ≤ s → sent r s t ≡ []
 sent-none r s t past =
     let absent : slice_get r.threads s ≡ None = slice_get_past r.threads s (omega (arith, (parts r).threads)) in
     let nothing : own_order_of r s ≡ [] = of_none own_order (slice_get r.threads s) absent in

@@ -4,7 +4,6 @@ pub mod ScriptText
 pub mod ReportText
 pub mod Printable
 pub mod Replay
-pub mod Served
 pub mod Threads
 pub mod OwnOrder
 pub mod Holding

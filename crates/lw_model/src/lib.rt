@@ -7,8 +7,6 @@ mod record;
 mod refusal;
 mod script;
 mod step;
-#[cfg(test)]
-mod tests;
 
 pub use items::{Items, Text};
 pub use laws::{journals_are_of_clients, verdict_is_exact, verdict_is_first};

@@ -9,11 +9,8 @@ use Rattle.lw_model.specs.declared.script.Op.{Op}
 use Rattle.lw_model.specs.declared.refusal.ScriptRefusal.TheVariants.{Pattern}
 use Rattle.lw_model.specs.ScriptRules.{Placed, is_name, is_name_byte, is_distinct, names_an_image, all_ops, is_within, is_pattern, placed_ops, with_earlier, first_bad_pattern, rule_answers, rule_broken}
 use Rattle.lw_model.proofs.Rules.{names-kept, each-none}
-use Rattle.lw_model.proofs.Passing.{list_all-flat_map}
-
-all-map : {X Y : Type 0} (p : Y → Bool) (f : X → Y) (xs : List X) → list_all p (map f xs) ≡ list_all (λ x. p (f x)) xs
-all-map p f [] = refl
-all-map p f (x ∷ xs) = ap (λ b. p (f x) && b) (all-map p f xs)
+use Rattle.lw_model.proofs.Passing.{list_all-flat_map, list_all-same}
+use Rattle.std.proofs.lemmas.List.Folds.{list_all-map}
 
 pub named_length : (name : List ℕ) → is_name name ≡ true → 0 < length name
 named_length name e =
@@ -34,10 +31,10 @@ module _ (s : Script) (e : rule_broken s ≡ None) where
       and_parts images clients b.0
 
   pub images_named : list_all (λ (i : ImageOf). is_name i.name) s.images ≡ true
-  images_named = sym (all-map is_name (λ (i : ImageOf). i.name) s.images) ∙ all_named.0
+  images_named = sym (list_all-map is_name (λ (i : ImageOf). i.name) s.images) ∙ all_named.0
 
   pub clients_named : list_all (λ (c : ClientOf). is_name c.name) s.clients ≡ true
-  clients_named = sym (all-map is_name (λ (c : ClientOf). c.name) s.clients) ∙ all_named.1
+  clients_named = sym (list_all-map is_name (λ (c : ClientOf). c.name) s.clients) ∙ all_named.1
 
   none_bad : first_bad_pattern s ≡ None
   none_bad = at (first_bad_pattern s) (each-none (rule_answers s) 11 (option_map (λ p. Pattern p.client p.place) (first_bad_pattern s)) e refl)
@@ -64,17 +61,13 @@ all-numbered : {X : Type 0} (p : X → Bool) (n : ℕ) (xs : List X) → list_al
 all-numbered p n [] = refl
 all-numbered p n (x ∷ xs) = ap (λ b. p x && b) (all-numbered p (n + 1) xs)
 
-all-same : {X : Type 0} (p q : X → Bool) → ((x : X) → p x ≡ q x) → (xs : List X) → list_all p xs ≡ list_all q xs
-all-same p q each [] = refl
-all-same p q each (x ∷ xs) = ap₂ (λ a b. a && b) (each x) (all-same p q each xs)
-
 pub patterns_fit : (s : Script) → rule_broken s ≡ None → list_all (λ (c : ClientOf). list_all is_pattern c.ops) s.clients ≡ true
 patterns_fit s e =
     let test : Placed → Bool = λ p. is_pattern p.op in
     let ops : ℕ × ClientOf → List Placed = λ c. map (λ (o : ℕ × Op). record { client = c.0; place = o.0; op = o.1 }) (enumerate_from 0 c.1.ops) in
     let found = not_found (λ (q : List Placed × Placed). test q.1) (with_earlier [] (placed_ops s)) (unmapped (find (λ p. not (is_pattern p.1.op)) (with_earlier [] (placed_ops s))) (none_bad s e)) in
     sym (all-numbered (λ (c : ClientOf). list_all is_pattern c.ops) 0 s.clients)
-    ∙ sym (all-same (λ c. list_all test (ops c)) (λ c. list_all is_pattern c.1.ops) (λ c. all-map test (λ (o : ℕ × Op). record { client = c.0; place = o.0; op = o.1 }) (enumerate_from 0 c.1.ops) ∙ all-numbered is_pattern 0 c.1.ops) (enumerate_from 0 s.clients))
+    ∙ sym (list_all-same (λ c. list_all test (ops c)) (λ c. list_all is_pattern c.1.ops) (λ c. list_all-map test (λ (o : ℕ × Op). record { client = c.0; place = o.0; op = o.1 }) (enumerate_from 0 c.1.ops) ∙ all-numbered is_pattern 0 c.1.ops) (enumerate_from 0 s.clients))
     ∙ sym (list_all-flat_map test ops (enumerate_from 0 s.clients))
     ∙ sym (all-earlier test [] (placed_ops s))
     ∙ found

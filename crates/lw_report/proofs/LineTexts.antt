@@ -20,7 +20,7 @@ use Rattle.lw_model.specs.ScriptRules.{is_within}
 use Rattle.lw_model.specs.ReportText.{line, hop_line, what_words, ran_line, answer_words, did_line, called_line, mark_word, result_words, seen_line, role_word, device_line}
 use Rattle.lw_report.specs.LineParts.{after, number, spaced, is_end, u32_max, u64_max}
 use Rattle.lw_report.specs.LineKinds.{choose, ended, last32, last64, hop_in, visit_in, cast_in, what_in, ran_in, answer_in, did_in, called_in, mark, results, is_space, results_in, seen_in, thread_in, device_in, text_in, number_in, pair_in}
-use Rattle.lw_report.proofs.Said.{some_parts, map_parts, if_some}
+use Rattle.lw_report.proofs.Said.{some_parts, map_parts, if_some, some_is}
 use Rattle.lw_report.proofs.PartTexts.{after_text, number_text, Tail, tail_end, tail_word, spaced_text, whole_line}
 
 -- ---- numbers
@@ -69,9 +69,6 @@ module _ {X : Type 0} (words : X → List (List ℕ)) (l : List ℕ) (x : X) whe
 
   pub by64 : (w : List ℕ) (f : ℕ → X) (r : List ℕ) → ((k : ℕ) → words (f k) ≡ w ∷ decimal k ∷ []) → l ≡ 32 ∷ (w ++ r) → option_map f (last64 r) ≡ Some x → Tail (words x) l
   by64 w f r is e h = let p = map_parts (last64 r) f x h in subst (λ y. Tail (words y) l) p.2 (subst (λ ws. Tail ws l) (sym (is p.0)) (tail_word w l r (decimal p.0 ∷ []) e (last64_text r p.0 p.1)))
-
-some_is : {A : Type 0} {x y : A} → Some x ≡ Some y → x ≡ y
-some_is e = cc
 
 -- ---- messages
 

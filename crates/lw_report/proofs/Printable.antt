@@ -26,7 +26,8 @@ use Rattle.lw_report.specs.declared.read.single.FixedLine.TheVariants.{Title, St
 use Rattle.lw_report.specs.declared.read.single.NumberLine.TheVariants.{Period, Images, Clients}
 use Rattle.lw_report.specs.declared.read.single.PairLine.TheVariants.{Pool, Left}
 use Rattle.lw_report.specs.Once.{fixed_in, number_of_in, pair_of_in, reactors_in}
-use Rattle.lw_report.specs.Machine.{State, one, many, is_nil}
+use Rattle.lw_base.specs.TextLines.{is_nil}
+use Rattle.lw_report.specs.Machine.{State, one, many}
 use Rattle.lw_report.specs.Report.{list_at, client_at, script_at, role_at, thread_lines, thread_at, threads_at, devices_at, report_at}
 use Rattle.lw_report.proofs.Said.{read_parts, some_parts, map_parts, if_some, if_ok, one_said, many_all, numbered_all, chosen}
 

@@ -3,6 +3,7 @@ use Rattle.std.proofs.Common.{◌≡◌, ℕ, suc, ◌+◌, ◌-◌, ◌<◌, Li
 use Rattle.lw_report.specs.declared.read.lines.Stop.{Stop}
 use Rattle.lw_report.specs.declared.read.lines.Stop.TheVariants.{BadLine, NoMemory}
 use Rattle.lw_report.specs.Machine.{State, Says, SaysList, taken, many, many_from, numbered, ◌>>=◌}
+use Rattle.lw_report.proofs.Results.{one_less}
 
 abbrev pub state : ℕ → List (List ℕ) → State
 state n ls = record { line = n; lines = ls }
@@ -48,9 +49,6 @@ before xs r = elim r [ Ok p ↦ Ok (xs ++ p.0, p.1) | Err n ↦ Err n ]
 -- what is read behind one part
 abbrev and_rest : {X : Type 0} → (ℕ → State → Result (X × State) ℕ) → ℕ → ℕ → Result (X × State) ℕ → Result (List X × State) ℕ
 and_rest f k n r = r >>= (λ x. numbered k n f x.1 >>= (λ xs. Ok (x.0 ∷ xs.0, xs.1)))
-
-one_less : (n i : ℕ) → i < n → n - i ≡ suc (n - (i + 1))
-one_less n i h = omega (arith, h)
 
 pub numbered_more : {X : Type 0} (f : ℕ → State → Result (X × State) ℕ) (n i : ℕ) (s t : State) (x : X) (xs : List X) → i < n → f i s ≡ Ok (x, t)
     → before xs (numbered (n - i) i f s) ≡ before (xs ++ x ∷ []) (numbered (n - (i + 1)) (i + 1) f t)

@@ -7,7 +7,7 @@ use Rattle.lw_report.specs.LineKinds.{ended, results}
 abbrev pub prefixed : {X : Type 0} → List X → Option (List X) → Option (List X)
 prefixed xs o = option_map (λ ys. xs ++ ys) o
 
-one_less : (n i : ℕ) → i < n → n - i ≡ suc (n - (i + 1))
+pub one_less : (n i : ℕ) → i < n → n - i ≡ suc (n - (i + 1))
 one_less n i h = omega (arith, h)
 
 pub results_step : {X : Type 0} (one : List ℕ → Option (X × List ℕ)) (n i : ℕ) (l behind : List ℕ) (x : X) (xs : List X) → i < n → one l ≡ Some (x, behind)

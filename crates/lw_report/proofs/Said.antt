@@ -6,6 +6,9 @@ use Rattle.lw_report.specs.LineParts.{after}
 use Rattle.lw_report.specs.LineKinds.{choose}
 use Rattle.lw_report.specs.Machine.{State, ◌>>=◌, one, many_from, numbered}
 
+pub some_is : {A : Type 0} {x y : A} → Some x ≡ Some y → x ≡ y
+some_is e = cc
+
 -- ---- parts of a reading that succeeded
 
 pub read_parts : {A B : Type 0} (r : Result A ℕ) (f : A → Result B ℕ) (b : B) → r >>= f ≡ Ok b → (a : A) × (r ≡ Ok a) × (f a ≡ Ok b)

@@ -17,13 +17,10 @@ use Rattle.lw_model.specs.ReportText.{line, image_line, op_words, op_line, repli
 use Rattle.lw_report.specs.declared.read.script_lines.ClientHead.{ClientHead}
 use Rattle.lw_report.specs.LineParts.{after, spaced, word, is_end, u32_max, u64_max}
 use Rattle.lw_report.specs.LineKinds.{last64, is_no_capital, last_digits, decoded, bytes_in, replied_in, reply_in, name_of, image_in, client_in, write_in, read_in, plain_form_in, op_in}
-use Rattle.lw_report.proofs.Said.{some_parts, map_parts, if_some}
+use Rattle.lw_report.proofs.Said.{some_parts, map_parts, if_some, some_is}
 use Rattle.lw_report.proofs.PartTexts.{after_text, Tail, tail_end, tail_word, word_text, whole_line}
 use Rattle.lw_report.proofs.LineTexts.{tail32, tail64, last64_text, picked, by_end, by32, by64}
 use Rattle.lw_report.proofs.HexTexts.{lower_same}
-
-some_is : {A : Type 0} {x y : A} → Some x ≡ Some y → x ≡ y
-some_is e = cc
 
 digits_text : (l w : List ℕ) → last_digits l ≡ Some w → Tail (w ∷ []) l × (list_all is_no_capital w ≡ true)
 digits_text l w e =

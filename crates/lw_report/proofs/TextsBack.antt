@@ -10,7 +10,7 @@ use Rattle.lw_model.specs.Printable.{is_printable}
 use Rattle.lw_model.specs.ScriptRules.{is_within}
 use Rattle.lw_model.specs.ReportText.{text_of_lines, text_of}
 use Rattle.lw_report.specs.declared.read.contents.Contents.{Contents}
-use Rattle.lw_report.specs.Pieces.{pieces}
+use Rattle.lw_base.specs.TextLines.{pieces}
 use Rattle.lw_report.specs.Machine.{State, ◌>>=◌}
 use Rattle.lw_report.specs.Report.{report_at, reading}
 use Rattle.lw_report.specs.Parsed.{contents_of, IsStatic}

@@ -22,7 +22,8 @@ use Rattle.lw_report.specs.declared.read.single.PairLine.TheVariants.{Pool, Left
 use Rattle.lw_report.specs.LineParts.{u64_max}
 use Rattle.lw_report.specs.LineKinds.{image_in, device_in}
 use Rattle.lw_report.specs.Once.{fixed_text, fixed_in, number_word, number_least, number_most, number_of_in, pair_of_in, reactors_in}
-use Rattle.lw_report.specs.Machine.{State, ◌>>=◌, one, numbered, is_nil}
+use Rattle.lw_base.specs.TextLines.{is_nil}
+use Rattle.lw_report.specs.Machine.{State, ◌>>=◌, one, numbered}
 use Rattle.lw_report.specs.Report.{list_at, client_at, accepted, script_at, thread_at, threads_at, devices_at, finished, rest_at, report_at}
 use Rattle.lw_report.specs.Ranges.{Fits32, Fits64, ImageFits, ClientFits, ScriptFits, ThreadFits, DeviceFits, InRange}
 use Rattle.lw_report.proofs.Reading.{state}

@@ -22,8 +22,8 @@ use Rattle.lw_report.specs.declared.read.single.NumberLine.TheVariants.{Period, 
 use Rattle.lw_report.specs.declared.read.single.PairLine.TheVariants.{Pool, Left}
 use Rattle.lw_report.specs.LineKinds.{text_in, image_in, device_in}
 use Rattle.lw_report.specs.Once.{fixed_text, fixed_in, number_word, number_least, number_most, number_of_in, pair_of_in, reactors_in}
-use Rattle.lw_report.specs.Pieces.{is_feed, put_on, pieces}
-use Rattle.lw_report.specs.Machine.{State, one, numbered, is_nil}
+use Rattle.lw_base.specs.TextLines.{is_feed, put_on, pieces, is_nil}
+use Rattle.lw_report.specs.Machine.{State, one, numbered}
 use Rattle.lw_report.specs.Report.{list_at, client_at, script_at, thread_at, threads_at, devices_at, rest_at, report_at, reading}
 use Rattle.lw_report.specs.Parsed.{contents_of, IsStatic}
 use Rattle.lw_report.proofs.Said.{read_parts, if_some, if_ok, numbered_all}

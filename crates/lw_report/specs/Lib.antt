@@ -1,7 +1,6 @@
 pub mod LineParts
 pub mod LineKinds
 pub mod Once
-pub mod Pieces
 pub mod Machine
 pub mod Report
 pub mod Parsed

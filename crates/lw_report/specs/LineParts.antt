@@ -37,11 +37,6 @@ word_length bs = place_of_first ends_word bs
 abbrev pub is_plain : List ℕ → Bool
 is_plain ds = length ds == 1 || nat_lt 1 (length ds) && not (slice_index ds 0 == 48)
 
--- the number that digits write behind those of n
-abbrev pub value_from : ℕ → List ℕ → ℕ
-value_from n [] = n
-value_from n (b ∷ bs) = value_from (n * 10 + (b - 48)) bs
-
 -- a number of at most `most` that bytes begin with, and the bytes behind it
 abbrev pub number : ℕ → List ℕ → Option (ℕ × List ℕ)
 number most bs =

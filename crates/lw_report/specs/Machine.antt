@@ -56,6 +56,3 @@ SaysList (Ok v) s told = told ≡ Ok (v.items, s)
 SaysList (Err BadLine) s told = told ≡ Err s.line
 SaysList (Err NoMemory) s told = Unit {0}
 
-abbrev pub is_nil : {X : Type 0} → List X → Bool
-is_nil [] = true
-is_nil (x ∷ xs) = false

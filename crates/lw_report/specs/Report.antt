@@ -16,8 +16,8 @@ use Rattle.lw_report.specs.declared.read.single.NumberLine.TheVariants.{Period, 
 use Rattle.lw_report.specs.declared.read.single.PairLine.TheVariants.{Pool, Left}
 use Rattle.lw_report.specs.Once.{fixed_in, number_of_in, pair_of_in, reactors_in}
 use Rattle.lw_report.specs.LineKinds.{hop_in, ran_in, did_in, called_in, reply_in, seen_in, thread_in, device_in, image_in, client_in, op_in}
-use Rattle.lw_report.specs.Pieces.{pieces}
-use Rattle.lw_report.specs.Machine.{State, ◌>>=◌, one, many, numbered, is_nil}
+use Rattle.lw_base.specs.TextLines.{pieces, is_nil}
+use Rattle.lw_report.specs.Machine.{State, ◌>>=◌, one, many, numbered}
 
 -- ---- the script
 

@@ -14,6 +14,7 @@ use Rattle.lw_model.specs.ScriptRules.{unless, first_some, rule_broken, is_withi
 use Rattle.lw_model.proofs.Rules.{kept}
 use Rattle.lw_script.specs.Fitted.{fitted, fitted_image, fitted_client, fitted_script}
 use Rattle.lw_script.proofs.RuleLemmas.{first_some-append}
+use Rattle.lw_model.proofs.Passing.{list_all-same}
 
 -- ---- numbers
 
@@ -91,10 +92,6 @@ size-top count = by_test (is_size count 4294967295) refl
     by_test false e = e
 
 -- ---- lists
-
-list_all-same : {X : Type 0} (p q : X → Bool) → ((x : X) → p x ≡ q x) → (xs : List X) → list_all p xs ≡ list_all q xs
-list_all-same p q same [] = refl
-list_all-same p q same (x ∷ xs) = ap (λ b. b && list_all p xs) (same x) ∙ ap (λ b. q x && b) (list_all-same p q same xs)
 
 -- what passes a test stays the same
 map-kept : {X : Type 0} (p : X → Bool) (f : X → X) → ((x : X) → p x ≡ true → f x ≡ x) → (xs : List X) → list_all p xs ≡ true → map f xs ≡ xs

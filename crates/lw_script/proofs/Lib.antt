@@ -8,3 +8,4 @@ pub mod FirstFailing
 pub mod DistinctNames
 pub mod RuleLemmas
 pub mod FittedLemmas
+pub mod Accepted

@@ -3,3 +3,4 @@ pub mod Form
 pub mod Fitted
 pub mod First
 pub mod Rules
+pub mod Served

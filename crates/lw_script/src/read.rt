@@ -4,7 +4,7 @@ ghost use Rattle.serde_json.specs.View.{view};
 ghost use Rattle.lw_model.specs.ScriptRules.{has_image_count, rule_broken};
 ghost use Rattle.lw_model.specs.ScriptShape.{script_in, value_refusal};
 ghost use Rattle.lw_model.specs.ScriptText.{refusal_of, script_of};
-ghost use Rattle.lw_model.specs.Served.{is_served, run_refusal};
+ghost use Rattle.lw_script.specs.Served.{is_served, run_refusal};
 ghost use Rattle.lw_model.specs.declared.refusal.ScriptRefusal.TheVariants.{NoMemory};
 
 use crate::build::script_in;

@@ -2,7 +2,7 @@
 ghost use Rattle.std.specs.Prelude.{◌≡◌};
 ghost use Rattle.std.specs.List.{list_all};
 ghost use Rattle.lw_model.specs.ScriptRules.{all_ops};
-ghost use Rattle.lw_model.specs.Served.{is_basic, is_served};
+ghost use Rattle.lw_script.specs.Served.{is_basic, is_served};
 
 use lw_model::{ClientOf, Op, Script};
 

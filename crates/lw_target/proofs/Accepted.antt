@@ -11,8 +11,8 @@ use Rattle.lw_model.specs.declared.script.Op.{Op}
 use Rattle.lw_model.specs.declared.script.Op.TheVariants as op
 use Rattle.lw_model.specs.declared.refusal.ScriptRefusal.TheVariants.{Name, Range, Pattern, Limit}
 use Rattle.lw_model.specs.ScriptRules.{is_within, has_depths, Placed, placed_ops, with_earlier, first_failing, first_out_of_range, first_bad_pattern, is_in_range, is_in_range_after, is_pattern, read_bytes, rule_broken, rule_answers, has_names, names_an_image, all_ops}
-use Rattle.lw_model.specs.Served.{is_served, is_basic}
-use Rattle.lw_model.proofs.Rules.{each-none, kept}
+use Rattle.lw_script.specs.Served.{is_served, is_basic}
+use Rattle.lw_model.proofs.Rules.{each-none, kept, each_passes}
 use Rattle.lw_target.specs.Messages.{IsWithin, operands}
 use Rattle.lw_target.specs.Ops.{asks_bytes, is_servable}
 use Rattle.lw_target.specs.Turns.{OpsFit}
@@ -34,20 +34,6 @@ and_second true q e = e
 and_second false q e = let wrong : false ≡ true = e in cc
 
 -- where no op fails a test, each op passes it behind some others
-passes_all : (test : List Op → Op → Bool) (Q : Op → Type 0) → ((before : List Op) (o : Op) → test before o ≡ true → Q o)
-    → (before ps : List Placed) → find (λ p. not (test (map (λ q. q.op) p.0) p.1.op)) (with_earlier before ps) ≡ None
-    → AllByRecursion (λ (p : Placed). Q p.op) ps
-passes_all test Q means before [] e = tt
-passes_all test Q means before (p ∷ ps) e =
-    at (test (map (λ q. q.op) before) p.op) refl (λ none. passes_all test Q means (before ++ p ∷ []) ps none) e
-  where
-    at : (b : Bool) → test (map (λ q. q.op) before) p.op ≡ b
-        → (find (λ p. not (test (map (λ q. q.op) p.0) p.1.op)) (with_earlier (before ++ p ∷ []) ps) ≡ None → AllByRecursion (λ (p : Placed). Q p.op) ps)
-        → cond (not b) (Some (before, p)) (find (λ p. not (test (map (λ q. q.op) p.0) p.1.op)) (with_earlier (before ++ p ∷ []) ps)) ≡ None
-        → AllByRecursion (λ (p : Placed). Q p.op) (p ∷ ps)
-    at true is rest none = (means (map (λ q. q.op) before) p.op is, rest none)
-    at false is rest wrong = let never : ◌≡◌ {A = Option (List Placed × Placed)} (Some (before, p)) None = wrong in cc
-
 -- the ops of one client, each with its place
 ops_of_placed : (Q : Op → Type 0) (n : ℕ) (ops : List Op)
     → AllByRecursion (λ (p : Placed). Q p.op) (map (λ o. record { client = 0; place = o.0; op = o.1 }) (enumerate_from n ops) ++ [])
@@ -59,7 +45,7 @@ each_op : (image : ImageOf) (client : ClientOf) (small large : ℕ) (test : List
     → ((before : List Op) (o : Op) → test before o ≡ true → Q o) → first_failing test (one image client small large) ≡ None → AllByRecursion Q client.ops
 each_op image client small large test Q means e =
     ops_of_placed Q 0 client.ops
-    (passes_all test Q means [] (placed_ops (one image client small large)) (none_mapped (λ p. p.1) _ e))
+    (each_passes test Q means [] (placed_ops (one image client small large)) (none_mapped (λ p. p.1) _ e))
 
 all_of_test : (p : Op → Bool) (ops : List Op) → list_all p (ops ++ []) ≡ true → AllByRecursion (λ (o : Op). p o ≡ true) ops
 all_of_test p [] e = tt

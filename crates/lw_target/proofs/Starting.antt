@@ -26,11 +26,7 @@ use Rattle.lw_target.specs.WholeRun.{sent_to, reply_pairs}
 use Rattle.lw_target.specs.Turns.{unused}
 use Rattle.lw_target.specs.InOrder.{IsOfOne, IsToOwner}
 use Rattle.lw_target.proofs.OwnerRuns.{AreInOrder}
-
-all_at : {X : Type 0} (p : X → Bool) (xs : List X) (k : ℕ) (x : X) → list_all p xs ≡ true → slice_get xs k ≡ Some x → p x ≡ true
-all_at p [] k x e f = let wrong : None ≡ Some x = f in cc
-all_at p (y ∷ xs) zero x e f = let same : y ≡ x = cc in subst (λ z. p z ≡ true) same (and_parts (p y) (list_all p xs) e).0
-all_at p (y ∷ xs) (suc k) x e f = all_at p xs k x (and_parts (p y) (list_all p xs) e).1 f
+use Rattle.lw_model.proofs.Passing.{item_passes}
 
 -- an op that is served on one image is on image 0
 on_first : (o : Op) (d : ℕ) → is_servable 1 o ≡ true → image_of o ≡ Some d → d ≡ 0
@@ -57,7 +53,7 @@ module _ (s : Script) (size : ImageOf) (of : ClientOf) (images : s.images ≡ si
     where
       at : (o : Option Op) → (k d : ℕ) → slice_get of.ops k ≡ o → option_and_then image_of (slice_get of.ops k) ≡ Some d → d ≡ 0
       at None k d e f = let wrong : ◌≡◌ {A = Option ℕ} None (Some d) = sym (ap (option_and_then image_of) e) ∙ f in cc
-      at (Some o) k d e f = on_first o d (all_at (is_servable 1) of.ops k o serves e) (sym (ap (option_and_then image_of) e) ∙ f)
+      at (Some o) k d e f = on_first o d (item_passes (is_servable 1) of.ops k o serves e) (sym (ap (option_and_then image_of) e) ∙ f)
 
   pub is_of : (c : Client) → c.of ≡ of → c.thread ≡ 1 → c.first_owner ≡ 2 → vec_len c.channels ≡ 1 → IsOf s c
   is_of c same thread owner channels = record {

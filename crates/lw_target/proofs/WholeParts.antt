@@ -17,6 +17,7 @@ use Rattle.lw_model.specs.Threads.{is_client, of_thread, ops_of, EachThread, Eac
 use Rattle.lw_model.specs.OwnOrder.{own_order, in_order, put_in, at_of}
 use Rattle.lw_target.specs.Ops.{is_servable}
 use Rattle.lw_target.specs.WholeRun.{AppEnded, OwnerEnded, IsWholeRun}
+use Rattle.lw_model.proofs.Callbacks.{put_first}
 
 -- a record of one client on one image is made of these parts
 pub record IsMadeOf (r : Record) (app client owner : ThreadRecord) (end : DeviceEnd) : Type 0 where
@@ -81,17 +82,13 @@ app_order app end ended =
 abbrev pub ran_steps : ℕ → List Tag → List Step
 ran_steps n ran = map (λ p. step.Ran p.0 p.1) (enumerate_from n ran)
 
-stay : (s : Step) (xs : List Step) → AllByRecursion (λ x. at_of s ≤ at_of x) xs → put_in s xs ≡ s ∷ xs
-stay s [] h = refl
-stay s (x ∷ xs) h = ap (λ b. cond b (s ∷ x ∷ xs) (x ∷ put_in s xs)) (le-leb (at_of s) (at_of x) h.0)
-
 rans_from : (n : ℕ) (ran : List Tag) (most : ℕ) → most ≤ n → AllByRecursion (λ (x : Step). most ≤ at_of x) (ran_steps n ran)
 rans_from n [] most h = tt
 rans_from n (m ∷ ran) most h = (h, rans_from (n + 1) ran most (omega (arith, h)))
 
 pub rans_ordered : (n : ℕ) (ran : List Tag) → in_order (ran_steps n ran) ≡ ran_steps n ran
 rans_ordered n [] = refl
-rans_ordered n (m ∷ ran) = ap (put_in (step.Ran n m)) (rans_ordered (n + 1) ran) ∙ stay (step.Ran n m) (ran_steps (n + 1) ran) (rans_from (n + 1) ran n (omega arith))
+rans_ordered n (m ∷ ran) = ap (put_in (step.Ran n m)) (rans_ordered (n + 1) ran) ∙ put_first (step.Ran n m) (ran_steps (n + 1) ran) (rans_from (n + 1) ran n (omega arith))
 
 pub owner_order : (s : Script) (client owner : ThreadRecord) → OwnerEnded s client owner → own_order owner ≡ ran_steps 0 owner.ran
 owner_order s client owner ended =

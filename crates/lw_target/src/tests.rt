@@ -1,6 +1,6 @@
 ghost use Rattle.std.specs.Prelude.{◌≡◌, None, true, IfOk};
 ghost use Rattle.lw_model.specs.ScriptRules.{rule_broken};
-ghost use Rattle.lw_model.specs.Served.{is_served};
+ghost use Rattle.lw_script.specs.Served.{is_served};
 ghost use Rattle.lw_target.specs.Options.{AreServed};
 ghost use Rattle.lw_target.specs.Sample.{sample};
 

@@ -3,6 +3,12 @@
 #![tactic(auto)]
 
 #[cfg(test)]
+mod images;
+#[cfg(test)]
+mod items;
+#[cfg(test)]
+mod memory;
+#[cfg(test)]
 mod places;
 #[cfg(test)]
 mod ring_latches;

@@ -1,4 +1,3 @@
 pub mod WalkPieces
-pub mod WalkNumerals
 pub mod Walks
 mod WalkExamples

@@ -2,7 +2,7 @@
 use Rattle.std.specs.Prelude.{◌≡◌, ℕ, List, [], codes, length, nat_lt, if◌then◌else◌, Some, None, refl}
 use Rattle.std.proofs.Common.{ap}
 use Rattle.std.specs.Fmt.{digits}
-use Rattle.lw_walk.specs.WalkLines.{pieces}
+use Rattle.lw_base.specs.TextLines.{pieces}
 use Rattle.lw_walk.specs.WalkForm.{bad_line}
 use Rattle.lw_walk.specs.Walk.{walk_answer, walk_bad_line}
 

@@ -8,7 +8,8 @@ use Rattle.lw_world.specs.declared.world_event.WorldRefusal.{WorldRefusal}
 use Rattle.lw_walk.specs.declared.walk.Sizes.{Sizes}
 use Rattle.lw_world.specs.Sums.{at}
 use Rattle.lw_world.specs.World.{State, HasRoom, after, stepped, refusal_of, answer_of, first_state}
-use Rattle.lw_walk.specs.WalkLines.{Left, taken, is_nil, is_feed, put_on, pieces}
+use Rattle.lw_base.specs.TextLines.{is_nil, is_feed, put_on, pieces}
+use Rattle.lw_walk.specs.WalkLines.{Left, taken}
 use Rattle.lw_walk.specs.WalkForm.{event_in, sizes_in, bad_event, bad_line, stopped_at}
 use Rattle.lw_walk.specs.Walk.{answers, event_line, refused, walk_bad_line, walk_answer, walk_of}
 use Rattle.lw_world.proofs.Sums.{at-put_small}

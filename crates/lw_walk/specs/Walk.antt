@@ -11,7 +11,7 @@ use Rattle.lw_walk.specs.declared.walk.Walked.{Walked}
 use Rattle.lw_walk.specs.declared.walk.Walked.TheVariants.{BadLine, Text}
 use Rattle.lw_world.specs.Sums.{at, sum_below, texts_below}
 use Rattle.lw_world.specs.World.{State, first_state, refusal_of, refusal_number, stepped, standing_of, stage_of, sleeps}
-use Rattle.lw_walk.specs.WalkLines.{pieces}
+use Rattle.lw_base.specs.TextLines.{pieces}
 use Rattle.lw_walk.specs.WalkForm.{event_in, sizes_in, bad_line}
 
 -- words with one space between each two, and a line feed

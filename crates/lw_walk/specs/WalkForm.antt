@@ -3,7 +3,8 @@ use Rattle.std.specs.Prelude.{ℕ, ◌+◌, Bool, ◌&&◌, nat_le, List, [], �
 use Rattle.lw_world.specs.declared.world_event.WorldEvent.{WorldEvent}
 use Rattle.lw_world.specs.declared.world_event.WorldEvent.TheVariants.{Send, Run, LeaveFor, Arrive, End, Give, Destroy, Shut, Fire, BeginVisit, EndVisit, Sleep, Wake}
 use Rattle.lw_walk.specs.declared.walk.Sizes.{Sizes}
-use Rattle.lw_walk.specs.WalkLines.{Left, is_nil, after_text, spaced, is_end}
+use Rattle.lw_base.specs.TextLines.{is_nil}
+use Rattle.lw_walk.specs.WalkLines.{Left, after_text, spaced, is_end}
 
 infixl 10 ◌>>=◌
 abbrev pub ◌>>=◌ : {A B : Type 0} → Option A → (A → Option B) → Option B

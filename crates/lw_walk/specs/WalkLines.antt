@@ -3,27 +3,6 @@ use Rattle.std.specs.Prelude.{ℕ, ◌+◌, ◌-◌, ◌*◌, Bool, true, false,
 
 -- ---- lines
 
-abbrev pub is_feed : ℕ → Bool
-is_feed b = b == 10
-
--- a byte put before the first line
-abbrev pub put_on : ℕ → List (List ℕ) → List (List ℕ)
-put_on b [] = (b ∷ []) ∷ []
-put_on b (p ∷ ps) = (b ∷ p) ∷ ps
-
--- the lines of a text, each with its line feed, but for a last one that lacks it
-abbrev pub pieces : List ℕ → List (List ℕ)
-pieces [] = []
-pieces (b ∷ bs) = if is_feed b then (b ∷ []) ∷ pieces bs else put_on b (pieces bs)
-
--- the length of a text's first line
-abbrev pub line_length : List ℕ → ℕ
-line_length bs = elim (position is_feed bs) [ Some i ↦ i + 1 | None ↦ length bs ]
-
-abbrev pub is_nil : {X : Type 0} → List X → Bool
-is_nil [] = true
-is_nil (x ∷ xs) = false
-
 -- the lines that are left, and the number of the first
 pub record Left : Type 0 where
   pub line : ℕ
@@ -48,11 +27,6 @@ digit_count bs = unwrap_or (position is_no_digit bs) (length bs)
 -- a digit or more, and no zero before others
 abbrev pub is_plain : List ℕ → Bool
 is_plain ds = length ds == 1 || nat_lt 1 (length ds) && not (slice_index ds 0 == 48)
-
--- the number that digits write behind those of n
-abbrev pub value_from : ℕ → List ℕ → ℕ
-value_from n [] = n
-value_from n (b ∷ bs) = value_from (n * 10 + (b - 48)) bs
 
 -- a number of 32 bits that bytes begin with, and the bytes behind it
 abbrev pub number : List ℕ → Option (ℕ × List ℕ)

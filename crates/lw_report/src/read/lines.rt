@@ -1,7 +1,7 @@
 //! A text as its lines, and reading them one after the other.
 ghost use Rattle.std.specs.Prelude.{◌≡◌, ◌+◌, ◌<◌, ◌≤◌, [], ◌∷◌, length, drop, position, Some, None, IfOk, MatchOption};
-ghost use Rattle.lw_report.specs.Pieces.{is_feed, line_length, pieces};
-ghost use Rattle.lw_report.specs.Machine.{taken, one, many, is_nil, numbered, Says, SaysList};
+ghost use Rattle.lw_base.specs.TextLines.{is_feed, line_length, pieces, is_nil};
+ghost use Rattle.lw_report.specs.Machine.{taken, one, many, numbered, Says, SaysList};
 
 use lw_base::NoMemory;
 use std::alloc::{AllocError, AllocFailed, Global};
@@ -47,7 +47,7 @@ pub struct Lines<'a> {
 
 impl<'a> Model for Lines<'a> {
     ghost use Rattle.std.specs.Prelude.{◌≡◌, ◌+◌, ◌≤◌, length};
-    ghost use Rattle.lw_report.specs.Pieces.{line_length, pieces};
+    ghost use Rattle.lw_base.specs.TextLines.{line_length, pieces};
     ghost use Rattle.lw_report.specs.Machine.{State};
 
     ghost Value = { State };

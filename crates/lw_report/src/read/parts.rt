@@ -1,6 +1,7 @@
 //! The parts of a line, read from its front. A line here ends with its line feed.
 ghost use Rattle.std.specs.Prelude.{◌≡◌, ℕ, ◌≤◌, ◌^◌, [], ◌∷◌, length, min, position, take, drop, Some, None, IfSome, IfNone, MatchOption};
-ghost use Rattle.lw_report.specs.LineParts.{after, number, spaced, word, is_end, is_plain, is_digit, is_no_digit, digit_count, ends_word, word_length, value_from, u32_max, u64_max};
+ghost use Rattle.lw_base.specs.TextLines.{value_from};
+ghost use Rattle.lw_report.specs.LineParts.{after, number, spaced, word, is_end, is_plain, is_digit, is_no_digit, digit_count, ends_word, word_length, u32_max, u64_max};
 
 /// The bytes behind a text, where they begin with it.
 pub fn after<'a>(bytes: &'a [u8], text: &str) -> Option<&'a [u8]>

@@ -2,7 +2,7 @@
 ghost use Rattle.std.specs.Prelude.{◌≡◌, ◌+◌, ◌≤◌, ◌++◌, ℕ, true, string_bytes, length, None, OnOk, IfOk};
 ghost use Rattle.std.specs.List.{filter_map};
 ghost use Rattle.lw_world.specs.Sums.{at};
-ghost use Rattle.lw_walk.specs.WalkLines.{is_nil};
+ghost use Rattle.lw_base.specs.TextLines.{is_nil};
 ghost use Rattle.lw_walk.specs.WalkForm.{bad_event, event_in, stopped_at};
 ghost use Rattle.lw_walk.specs.Walk.{answers, event_line, refused, state_text};
 

@@ -1,6 +1,7 @@
 //! A text as its lines, and reading them one after the other.
 ghost use Rattle.std.specs.Prelude.{◌≡◌, ◌+◌, ◌<◌, ◌≤◌, [], ◌∷◌, length, drop, position, Some, None, IfSome, MatchOption};
-ghost use Rattle.lw_walk.specs.WalkLines.{is_feed, line_length, pieces, taken, is_nil};
+ghost use Rattle.lw_base.specs.TextLines.{is_feed, line_length, pieces, is_nil};
+ghost use Rattle.lw_walk.specs.WalkLines.{taken};
 ghost use Rattle.lw_walk.specs.WalkForm.{event_in, sizes_in};
 
 use crate::walk::Sizes;
@@ -18,7 +19,8 @@ pub struct Lines<'a> {
 
 impl<'a> Model for Lines<'a> {
     ghost use Rattle.std.specs.Prelude.{◌≡◌, ◌+◌, ◌≤◌, length};
-    ghost use Rattle.lw_walk.specs.WalkLines.{line_length, pieces, Left};
+    ghost use Rattle.lw_base.specs.TextLines.{line_length, pieces};
+    ghost use Rattle.lw_walk.specs.WalkLines.{Left};
 
     ghost Value = { Left };
 

@@ -1,6 +1,7 @@
 //! The parts of a line, read from its front. A line here ends with its line feed.
 ghost use Rattle.std.specs.Prelude.{◌≡◌, ◌≤◌, length, min, position, Some, None, IfSome, MatchOption};
-ghost use Rattle.lw_walk.specs.WalkLines.{after_text, number, spaced, is_end, is_plain, is_digit, is_no_digit, digit_count, value_from};
+ghost use Rattle.lw_base.specs.TextLines.{value_from};
+ghost use Rattle.lw_walk.specs.WalkLines.{after_text, number, spaced, is_end, is_plain, is_digit, is_no_digit, digit_count};
 
 /// The bytes behind a text, where they begin with it.
 pub fn after<'a>(bytes: &'a [u8], text: &str) -> Option<&'a [u8]>

@@ -1,4 +1,4 @@
-use Rattle.lw_model.proofs.Accepted.{keeps_rules}
+use Rattle.lw_script.proofs.Accepted.{keeps_rules}
 use Rattle.lightrun.proofs.run.record_of.Goals as goal
 
 pub run_script-requires-clause-accepted : goal.run_script-requires-clause-accepted

@@ -1,6 +1,6 @@
 use Rattle.std.proofs.Common.{◌∙◌, ap, sym}
 use Rattle.std.specs.List.{list_all}
-use Rattle.lw_model.specs.Served.{is_basic}
+use Rattle.lw_script.specs.Served.{is_basic}
 use Rattle.lw_script.proofs.Views.{list_all-flat_map}
 use Rattle.lw_script.proofs.served.has_basic_ops.Goals as goal
 

@@ -1,5 +1,5 @@
 use Rattle.std.proofs.Common.{arith}
-use Rattle.lw_report.proofs.Numerals.{value_more}
+use Rattle.lw_base.proofs.TextLines.{value_more}
 use Rattle.lw_report.proofs.read.parts.value_of.Goals as goal
 
 pub loop-byte-preserved : goal.loop-byte-preserved

@@ -1,5 +1,5 @@
 use Rattle.std.proofs.Common.{arith}
-use Rattle.lw_walk.proofs.WalkNumerals.{value_more}
+use Rattle.lw_base.proofs.TextLines.{value_more}
 use Rattle.lw_walk.proofs.walk.parts.value_of.Goals as goal
 
 pub loop-byte-preserved : goal.loop-byte-preserved

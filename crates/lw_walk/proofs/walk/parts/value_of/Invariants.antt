@@ -1,5 +1,5 @@
 use Rattle.std.proofs.Common.{◌≡◌, take, min}
-use Rattle.lw_walk.specs.WalkLines.{value_from}
+use Rattle.lw_base.specs.TextLines.{value_from}
 use Rattle.lw_walk.proofs.walk.parts.value_of.Given as goal
 
 abbrev pub invariant-loop-byte : goal.invariant-loop-byte

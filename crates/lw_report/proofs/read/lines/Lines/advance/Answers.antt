@@ -1,5 +1,5 @@
 use Rattle.std.proofs.Common.{◌+◌, ap}
-use Rattle.lw_report.proofs.PieceLemmas.{rest_is, some_left}
+use Rattle.lw_base.proofs.TextLines.{rest_is, some_left}
 use Rattle.lw_report.proofs.Reading.{state}
 use Rattle.lw_report.proofs.read.lines.Lines.advance.Goals as goal
 

@@ -1,5 +1,5 @@
 use Rattle.std.proofs.Common.{◌<◌, length, arith}
-use Rattle.lw_report.proofs.PieceLemmas.{first_is}
+use Rattle.lw_base.proofs.TextLines.{first_is}
 use Rattle.lw_report.proofs.read.lines.Lines.first.Goals as goal
 
 pub returns-else-self-eq0 : goal.returns-else-self-eq0

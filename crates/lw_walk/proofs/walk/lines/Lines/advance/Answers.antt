@@ -1,5 +1,5 @@
 use Rattle.std.proofs.Common.{◌+◌, ap}
-use Rattle.lw_walk.proofs.WalkPieces.{rest_is, some_left}
+use Rattle.lw_base.proofs.TextLines.{rest_is, some_left}
 use Rattle.lw_walk.proofs.WalkPieces.{left}
 use Rattle.lw_walk.proofs.walk.lines.Lines.advance.Goals as goal
 

@@ -1,4 +1,4 @@
-use Rattle.lw_walk.proofs.WalkPieces.{none_left}
+use Rattle.lw_base.proofs.TextLines.{none_left}
 use Rattle.lw_walk.proofs.walk.lines.Lines.is_empty.Goals as goal
 
 pub returns : goal.returns

@@ -1,4 +1,4 @@
-use crate::Image;
+use lw_image::Image;
 use std::test::Fail;
 
 #[test]

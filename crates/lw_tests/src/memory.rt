@@ -1,4 +1,4 @@
-use crate::{Clock, Failed, ListClock, MemSink, MemSource, Sink, Source};
+use lw_base::{Clock, Failed, ListClock, MemSink, MemSource, Sink, Source};
 use std::test::Fail;
 
 #[test]

@@ -1,4 +1,4 @@
-use crate::{Items, Limits, Text};
+use lw_model::{Items, Limits, Text};
 use std::test::Fail;
 
 #[test]

@@ -1,9 +1,9 @@
--- A text's first line, and the lines behind it.
-use Rattle.std.proofs.Common.{◌≡◌, ℕ, suc, ◌+◌, ◌-◌, ◌<◌, ◌==◌, Bool, true, false, cond, List, [], ◌∷◌, length, take, take_all, length-drop, drop, Some, None, not, nat_lt, ◌≤◌, inl, inr, refl, sym, ap, ap₂, ◌∙◌, arith}
+-- A text's first line, the lines behind it, and one digit more.
+use Rattle.std.proofs.Common.{◌≡◌, ℕ, suc, ◌+◌, ◌-◌, ◌<◌, ◌==◌, Bool, true, false, cond, List, [], ◌∷◌, length, take, take_all, get_or, ◌*◌, ◌++◌, length-drop, drop, Some, None, not, nat_lt, ◌≤◌, inl, inr, refl, sym, ap, ap₂, ◌∙◌, arith}
 use Rattle.std.specs.List.{position_or_len}
+use Rattle.std.proofs.lemmas.List.{take_more}
 use Rattle.std.proofs.lemmas.Bool.{ne_eqb, lt-ltb, le-ltb, cases_lt}
-use Rattle.lw_report.specs.Machine.{is_nil}
-use Rattle.lw_report.specs.Pieces.{is_feed, put_on, pieces, line_length}
+use Rattle.lw_base.specs.TextLines.{is_feed, put_on, pieces, line_length, is_nil, value_from}
 
 -- the length of a line with so many bytes before its line feed, of so many that are left
 abbrev length_at : ℕ → ℕ → ℕ
@@ -69,3 +69,10 @@ none_left (b ∷ bs) = ne_eqb (length (b ∷ bs)) 0 (omega arith) ∙ sym (ap is
 pub some_left : (text : List ℕ) → 0 < length (pieces text) → 0 < length text
 some_left [] h = h
 some_left (b ∷ bs) h = omega arith
+
+pub value_from_push : (n : ℕ) (ds : List ℕ) (d : ℕ) → value_from n (ds ++ d ∷ []) ≡ value_from n ds * 10 + (d - 48)
+value_from_push n [] d = refl
+value_from_push n (b ∷ ds) d = value_from_push (n * 10 + (b - 48)) ds d
+
+pub value_more : (ds : List ℕ) (i : ℕ) → i < length ds → value_from 0 (take (i + 1) ds) ≡ value_from 0 (take i ds) * 10 + (get_or ds i 0 - 48)
+value_more ds i h = ap (value_from 0) (take_more ds i 0 h) ∙ value_from_push 0 (take i ds) (get_or ds i 0)
