@@ -1,7 +1,7 @@
 //! The registry of devices.
-ghost use Rattle.std.specs.Prelude.{◌≡◌, ◌+◌, ◌∷◌, [], IfOk};
-ghost use Rattle.lw_latch.specs.DeviceEnds.{DeviceLatch, SeatEnd, HaveFired};
-ghost use Rattle.lw_device.specs.Rows.{Row, new_row};
+ghost use Rattle.std.specs.Prelude.{◌≡◌, ◌≤◌, IfOk, length};
+ghost use Rattle.lw_device.specs.Rows.{seat_of};
+ghost use Rattle.lw_tests.specs.Registries.{AreRowsOfOne, latch_of, row_of};
 
 use lw_base::NoMemory;
 use lw_device::{
@@ -10,17 +10,27 @@ use lw_device::{
 use std::alloc::Global;
 use std::test::Fail;
 
-// The row of a registry with one device and one thread.
-fn one_row(alloc: Global) -> Result<DeviceRow, NoMemory>
-    ensures { IfOk result (λ r. (l : DeviceLatch) × (l.seats ≡ 1) × (r ≡ new_row (l ∷ []) 0)) }
+// The rows of a registry with one device.
+fn new_rows(alloc: Global, threads: u32) -> Result<Vec<DeviceRow>, NoMemory>
+    requires { (1 ≤ threads) × (threads ≤ 127) }
+    ensures { IfOk result (λ v. AreRowsOfOne threads v.items) }
 {
-    let mut rows = devices(alloc, 1, 1)?;
+    devices(alloc, 1, threads)
+}
+
+fn one_row(alloc: Global) -> Result<DeviceRow, NoMemory>
+    ensures latch { IfOk result (λ r. (latch_of r).seats ≡ 1) }
+    ensures row { IfOk result (λ r. r ≡ row_of (latch_of r) 0) }
+{
+    let mut rows = new_rows(alloc, 1)?;
     Ok(rows.pop().unwrap())
 }
 
 // Settles a registry of one device by the one row that is left.
 fn settle_one(alloc: Global, row: DeviceRow) -> Result<Vec<DeviceEnd>, NoMemory>
-    requires { (e : SeatEnd) × (row.seats ≡ e ∷ []) × (e.view.seats ≡ e.latch.seats) × (e.view.fired ≡ 1) }
+    requires seat { length row.seats ≡ 1 }
+    requires all { (seat_of row 0).view.seats ≡ (seat_of row 0).latch.seats }
+    requires fired { (seat_of row 0).view.fired ≡ 1 }
 {
     let mut rows = Vec::new(alloc);
     rows.push(row)?;
@@ -44,11 +54,11 @@ fn one_row_gets_destroys_and_unregisters(rt: HostRuntime) -> Result<(), Fail> {
     Ok(())
 }
 
-// The rows of a registry with one device and two threads.
 fn two_rows(alloc: Global) -> Result<(DeviceRow, DeviceRow), NoMemory>
-    ensures { IfOk result (λ r. (l : DeviceLatch) × (l.seats ≡ 2) × (r.0 ≡ new_row (l ∷ []) 0) × (r.1 ≡ new_row (l ∷ []) 1)) }
+    ensures latch { IfOk result (λ r. (latch_of r.0).seats ≡ 2) }
+    ensures rows { IfOk result (λ r. (r.0 ≡ row_of (latch_of r.0) 0) × (r.1 ≡ row_of (latch_of r.0) 1)) }
 {
-    let mut rows = devices(alloc, 1, 2)?;
+    let mut rows = new_rows(alloc, 2)?;
     let b = rows.pop().unwrap();
     let a = rows.pop().unwrap();
     Ok((a, b))
@@ -71,12 +81,11 @@ fn a_row_knows_what_the_one_that_it_took_in_had_begun(rt: HostRuntime) -> Result
     Ok(())
 }
 
-// The rows of a registry with one device and three threads.
 fn three_rows(alloc: Global) -> Result<(DeviceRow, DeviceRow, DeviceRow), NoMemory>
-    ensures { IfOk result (λ r. (l : DeviceLatch) × (r.0 ≡ new_row (l ∷ []) 0) × (r.1 ≡ new_row (l ∷ []) 1)
-        × (r.2 ≡ new_row (l ∷ []) 2)) }
+    ensures { IfOk result (λ r. (r.0 ≡ row_of (latch_of r.0) 0) × (r.1 ≡ row_of (latch_of r.0) 1)
+        × (r.2 ≡ row_of (latch_of r.0) 2)) }
 {
-    let mut rows = devices(alloc, 1, 3)?;
+    let mut rows = new_rows(alloc, 3)?;
     let c = rows.pop().unwrap();
     let b = rows.pop().unwrap();
     let a = rows.pop().unwrap();
