@@ -15,7 +15,10 @@ ghost use Rattle.lw_judge_answers.specs.AnsweringAt.{KnowsAt, IsAnsweringAt};
 
 use crate::completions::Completions;
 use crate::dones::Dones;
-use crate::fits::{get_fits, is_closed, is_sent, is_started, is_waited, put_fits, request_fits, unregister_fits, visit_fits};
+use crate::fits::{
+    get_fits, is_closed, is_sent, is_started, is_waited, put_fits, request_fits, unregister_fits,
+    visit_fits,
+};
 use crate::parts::{depth_of, dids_of, op_count};
 use crate::unanswered::Unanswered;
 use lw_base::NoMemory;

@@ -1,7 +1,7 @@
 //! What all threads told of a device is what its line says.
+use crate::changes::{fails, holds};
 use crate::shared_texts::{SHUT, THREE_CLIENTS, TWO_IMAGES};
 use crate::texts::{FOUR_OPS, HELD_AT_CLOSE, UNREGISTERS, WITHOUT_OPS};
-use crate::changes::{fails, holds};
 use std::test::Fail;
 
 #[test]

@@ -1,8 +1,8 @@
 //! Each reply has what the requests before it in the journal make it.
+use crate::changes::{fails, holds};
 use crate::shared_texts::{ONE_BUFFER, SHARED, THREE_CLIENTS, TWO_IMAGES};
 use crate::texts::FOUR_OPS;
 use crate::visit_texts::HOLDERS;
-use crate::changes::{fails, holds};
 use std::test::Fail;
 
 #[test]

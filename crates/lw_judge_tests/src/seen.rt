@@ -1,6 +1,6 @@
 //! A client lists what its visits and casts came to.
-use crate::visit_texts::{CAST_AND_VISIT, HOLDERS, VISITS};
 use crate::changes::{fails, holds};
+use crate::visit_texts::{CAST_AND_VISIT, HOLDERS, VISITS};
 use std::test::Fail;
 
 #[test]
