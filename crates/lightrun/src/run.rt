@@ -8,7 +8,7 @@ use crate::fault::Fault;
 use crate::work::Work;
 use lw_base::NoMemory;
 use lw_model::{Record, ScriptRefusal};
-use lw_report::print;
+use lw_report_print::print;
 use lw_script::read_script;
 use lw_target::{Options, run_script};
 use std::alloc::Global;

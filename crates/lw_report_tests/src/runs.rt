@@ -4,7 +4,7 @@ ghost use Rattle.std.specs.Prelude.{◌≡◌};
 ghost use Rattle.lw_target.specs.Options.{AreServed};
 
 use lw_model::Scheduler;
-use lw_report::print;
+use lw_report_print::print;
 use lw_script::{ScriptRefusal, read_script};
 use lw_target::{Options, run_script};
 use std::alloc::{AllocError, Global};
@@ -113,5 +113,6 @@ fn eighteen_reads_go_four_at_a_time(rt: HostRuntime) -> Result<(), Fail> {
             "did 0 0 given 0\ndid 0 1 sent\ndid 0 2 sent\ndid 0 3 sent\ndid 0 4 sent\ndid 4 5 sent\ndid 4 6 sent\ndid 4 7 sent\ndid 4 8 sent\ndid 8 9 sent\ndid 8 10 sent\ndid 8 11 sent\ndid 8 12 sent\ndid 12 13 sent\ndid 12 14 sent\ndid 12 15 sent\ndid 12 16 sent\ndid 16 17 sent\ndid 16 18 sent\ndid 18 19 deferred\ndid 18 20 closed\n"
         )
     );
+    assert!(rt; told.contains("ran 1 16 request 17\nran 1 17 request 18\nran 0 0 stop\n"));
     Ok(())
 }
