@@ -1,4 +1,5 @@
 pub mod ScriptRules
+pub mod Refusals
 pub mod ScriptShape
 pub mod ScriptText
 pub mod ReportText

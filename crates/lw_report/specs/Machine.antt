@@ -55,4 +55,3 @@ abbrev pub SaysList : {X : Type 0} → Result (Vec X Global) Stop → State → 
 SaysList (Ok v) s told = told ≡ Ok (v.items, s)
 SaysList (Err BadLine) s told = told ≡ Err s.line
 SaysList (Err NoMemory) s told = Unit {0}
-

@@ -6,10 +6,6 @@
 mod parts;
 mod printed;
 mod read;
-#[cfg(test)]
-mod tests;
-#[cfg(test)]
-mod tests_of_words;
 mod text;
 mod threads;
 

@@ -12,8 +12,6 @@ mod read;
 mod rules;
 mod served;
 mod shape;
-#[cfg(test)]
-mod tests;
 mod value;
 
 pub use lw_model::{ClientOf, ImageOf, Items, Op, Script, ScriptRefusal, Text};

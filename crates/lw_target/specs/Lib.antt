@@ -8,7 +8,6 @@ pub mod App
 pub mod AppCalls
 pub mod Turns
 pub mod Run
-pub mod Sample
 pub mod Answers
 pub mod Effects
 pub mod Options

@@ -16,8 +16,6 @@ mod post;
 mod posts;
 mod run;
 mod running;
-#[cfg(test)]
-mod tests;
 mod turns;
 
 pub use options::Options;

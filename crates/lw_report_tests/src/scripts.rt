@@ -1,5 +1,5 @@
 //! Scripts against the table of refusals, worked out by hand from the format.
-use crate::{Op, ScriptRefusal, read_script};
+use lw_script::{Op, ScriptRefusal, read_script};
 use std::alloc::{AllocError, Global};
 use std::test::Fail;
 

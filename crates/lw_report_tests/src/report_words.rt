@@ -1,6 +1,6 @@
 //! Each word of each kind of line, edited in turn.
-use crate::{Parsed, read_report};
 use lw_base::NoMemory;
+use lw_report::{Parsed, read_report};
 use std::alloc::Global;
 use std::test::Fail;
 

@@ -1,5 +1,5 @@
-use crate::{Parsed, print, read_report};
 use lw_base::NoMemory;
+use lw_report::{Parsed, print, read_report};
 use std::alloc::Global;
 use std::test::Fail;
 

@@ -1,6 +1,6 @@
 //! What is no JSON, and values of another shape.
 use super::refusal;
-use crate::ScriptRefusal;
+use lw_script::ScriptRefusal;
 use std::test::Fail;
 
 #[test]

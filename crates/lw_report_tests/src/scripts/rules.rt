@@ -1,6 +1,6 @@
 //! Limits, names, ranges and patterns, at their bounds and past them.
 use super::{CLIENT, IMAGE, POOL, refusal, repeated, script, with_ops};
-use crate::ScriptRefusal;
+use lw_script::ScriptRefusal;
 use std::test::Fail;
 
 #[test]
