@@ -1,6 +1,8 @@
 //! Laws that join the record, its text, and its judge. A law is a function that does nothing: its clause is the law.
 #![tactic(auto)]
 
+mod bad_lines;
 mod places;
 
+pub use bad_lines::bad_lines_are_no_record_s;
 pub use places::lines_stand_where_numbered;
