@@ -158,10 +158,11 @@ module _ {X : Type 0} (f : List ℕ → Option X) where
       at : (o : Option X) → f l ≡ o → (rest : List (List ℕ)) × (one f (state n ms) ≡ Ok (x, state (n + 1) rest)) × (take k s'.lines ≡ take k rest)
       at (Some y) is =
           let front = first_same k l ls ms a in
-          let value = ok_value (sym (one_cons n l ls (Some y) is) ∙ e) in
-          (front.0,
-          ap (λ z. one f (state n z)) front.1 ∙ one_cons n l front.0 (Some y) is ∙ ap (λ z. Ok (z, state (n + 1) front.0)) value.0,
-          ap (λ (z : State). take k z.lines) (sym value.1) ∙ front.2)
+          let value = ok_value (sym (one_cons n l ls (Some y) is) ∙ e) in (
+            front.0,
+            ap (λ z. one f (state n z)) front.1 ∙ one_cons n l front.0 (Some y) is ∙ ap (λ z. Ok (z, state (n + 1) front.0)) value.0,
+            ap (λ (z : State). take k z.lines) (sym value.1) ∙ front.2,
+          )
       at None is = not_err (sym (one_cons n l ls None is) ∙ e)
 
   pub one_local : Local (one f)
@@ -177,10 +178,11 @@ module _ {X : Type 0} (f : List ℕ → Option X) where
         let next = one_goes_on s.line s.lines x s' e in
         let some = visible end s.line (omega (arith, next, below)) in
         let read = one_reads some.0 s.line s.lines t.lines x s' (subst (λ k. take k s.lines ≡ take k t.lines) some.1 a.lines) e in
-        let left : end - s'.line ≡ some.0 = omega (arith, next, below, some.1) in
-        (state (s.line + 1) read.0,
-        ap (λ n. one f (state n t.lines)) (sym a.line) ∙ read.1,
-        record { line = next; lines = subst (λ k. take k s'.lines ≡ take k read.0) (sym left) read.2 });
+        let left : end - s'.line ≡ some.0 = omega (arith, next, below, some.1) in (
+          state (s.line + 1) read.0,
+          ap (λ n. one f (state n t.lines)) (sym a.line) ∙ read.1,
+          record { line = next; lines = subst (λ k. take k s'.lines ≡ take k read.0) (sym left) read.2 },
+        );
   }
 
   -- ---- all lines of a kind
@@ -244,10 +246,11 @@ module _ {X : Type 0} (f : List ℕ → Option X) where
     reads = λ end s t s' xs a e below.
         let is : (many f s).1 ≡ s' = (ok_value e).1 in
         let read = many_reads end s.line s.lines t.lines a.lines (subst (λ (z : State). z.line < end) (sym is) below) in
-        let from : many f t ≡ many_from f s.line t.lines = ap (λ n. many_from f n t.lines) (sym a.line) in
-        ((many f t).1,
-        ap (λ z. Ok (z, (many f t).1)) (ap (λ (q : List X × State). q.0) from ∙ read.0 ∙ (ok_value e).0),
-        subst (λ z. Agree end z (many f t).1) is (subst (λ (q : List X × State). Agree end (many f s).1 q.1) (sym from) read.1));
+        let from : many f t ≡ many_from f s.line t.lines = ap (λ n. many_from f n t.lines) (sym a.line) in (
+          (many f t).1,
+          ap (λ z. Ok (z, (many f t).1)) (ap (λ (q : List X × State). q.0) from ∙ read.0 ∙ (ok_value e).0),
+          subst (λ z. Agree end z (many f t).1) is (subst (λ (q : List X × State). Agree end (many f s).1 q.1) (sym from) read.1),
+        );
   }
 
 -- so many parts
