@@ -7,19 +7,19 @@ mod process;
 use adapters::{StdSink, StdSource};
 use lw_base::OpenGate;
 use lw_program::{Fault, Finish, lightrun};
-use process::{clocks_of, exit_code, words_of};
+use process::{args_of, clocks_of, exit_code, words_of};
 use std::io;
 use std::process::ExitCode;
 
 fn main(rt: HostRuntime) -> io::Result<ExitCode> {
     let mut input = StdSource::new(rt.stdin());
     let mut out = StdSink::new(rt.stdout());
-    let finish = match words_of(&rt) {
-        Ok(words) => match clocks_of(rt.alloc(), rt) {
+    let finish = match args_of(&rt) {
+        Ok(args) => match clocks_of(rt.alloc(), rt) {
             Ok(clocks) => lightrun(
                 &rt,
                 rt.alloc(),
-                words.as_slice(),
+                words_of(args.as_slice()),
                 &mut input,
                 &mut out,
                 clocks,

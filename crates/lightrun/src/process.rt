@@ -1,5 +1,5 @@
 //! What the process brings and takes: the words of its command line, clocks and its exit status.
-ghost use Rattle.std.specs.Prelude.{◌≡◌, drop, vec_len, into_iter_items, IfOk};
+ghost use Rattle.std.specs.Prelude.{◌≡◌, drop, vec_len, IfOk};
 ghost use Rattle.std.specs.Process.{exit_status};
 
 use crate::adapters::TickClock;
@@ -9,10 +9,10 @@ use std::alloc::Global;
 use std::process::ExitCode;
 use std::{env, io};
 
-/// The words of the command line behind the program's name. A word that isn't text is none of the command table.
-pub fn words_of<R: env::Env + Alloc<A = Global>>(rt: &R) -> Result<Vec<String>, Fault> {
+/// The words of the command line, the program's name first. A word that isn't text is none of the command table.
+pub fn args_of<R: env::Env + Alloc<A = Global>>(rt: &R) -> Result<Vec<String>, Fault> {
     match env::args(rt) {
-        Ok(args) => without_first(rt.alloc(), args).map_err(|_| Fault::NoMemory),
+        Ok(args) => collected(rt.alloc(), args).map_err(|_| Fault::NoMemory),
         Err(error) => {
             if error.kind() == io::ErrorKind::OutOfMemory {
                 Err(Fault::NoMemory)
@@ -23,12 +23,18 @@ pub fn words_of<R: env::Env + Alloc<A = Global>>(rt: &R) -> Result<Vec<String>, 
     }
 }
 
-// All but the first.
-fn without_first(alloc: Global, mut args: env::Args) -> Result<Vec<String>, NoMemory>
-    ensures { IfOk result (λ words. words.items ≡ drop 1 (into_iter_items args.entry)) }
-{
-    let _name = args.next();
+fn collected(alloc: Global, args: env::Args) -> Result<Vec<String>, NoMemory> {
     args.collect(alloc)
+}
+
+/// The words behind the program's name.
+pub fn words_of(args: &[String]) -> &[String]
+    ensures { result.now ≡ drop 1 args.now }
+{
+    match args {
+        [] => args,
+        [_, words @ ..] => words,
+    }
 }
 
 /// A clock for each reactor that there may be.
