@@ -10,7 +10,9 @@ pub fn enter(latch: &mut Option<LatchSend>) -> Enter
     requires { (n : ℕ) × Outside latch.old n }
     ensures same { latch_id latch.new ≡ latch_id latch.old }
     ensures inside { result ≡ Enter.Inside →
-        ((n : ℕ) → Outside latch.old n → Inside latch.new n) × (found_of latch.new ≡ found_of latch.old) }
+        ((n : ℕ) → Outside latch.old n → Inside latch.new n)
+        × (found_of latch.new ≡ 0)
+        × (found_of latch.old ≡ 0) }
     ensures closed { result ≡ Enter.Closed →
         ((n : ℕ) → Outside latch.old n → Outside latch.new n)
         × (found_of latch.new ≡ found_of latch.old + 1)
