@@ -8,7 +8,8 @@ use Rattle.std.proofs.lemmas.List.{append-nil}
 use Rattle.std.proofs.lemmas.List.Elements.{All-nil, All-append}
 use Rattle.lw_base.specs.Letters.{Names, Numbered, list_at, FitsRing}
 use Rattle.lw_ring.specs.declared.parcel.Parcel.{Parcel}
-use Rattle.lw_ring.specs.Queue.{above_all_sent, contents, AllFit, Takes, TakenOff}
+use Rattle.lw_latch.specs.RingWord.{above_all_sent}
+use Rattle.lw_ring.specs.Queue.{contents, AllFit, Takes, TakenOff}
 use Rattle.lw_ring.specs.declared.queue.PassView.{PassView}
 use Rattle.lw_ring.specs.Calls.{NamedFrom, InTurn}
 use Rattle.lw_ring.specs.Ends.{ReceiverView}
@@ -53,8 +54,8 @@ received {L} {F} v w more senders got now r is size =
 -- where as many messages are in hand as are wanted, they are handed out
 pub enough_in_hand : {T : Type 0} (batch hand before : List T) (max : ℕ) → batch ++ hand ≡ before → length batch ≤ max → (length batch < max → hand ≡ []) → max ≤ length before → max ≤ length batch
 enough_in_hand {T} batch hand before max is most rest enough = elim (eq-or-lt_of_le most) [
-    inl same ↦ omega arith
-    | inr less ↦ (let none = ap (λ (l : List T). length (batch ++ l)) (rest less) in let size = ap length is in let nil = ap length (append-nil batch) in omega arith)
+  | inl same ↦ omega arith
+  | inr less ↦ (let none = ap (λ (l : List T). length (batch ++ l)) (rest less) in let size = ap length is in let nil = ap length (append-nil batch) in omega arith)
 ]
 
 -- the letters of a run are numbered on

@@ -5,7 +5,8 @@ use Rattle.lw_base.specs.Letters.{Names}
 use Rattle.lw_ring.specs.declared.ends.SendRefusal.{SendRefusal}
 use Rattle.lw_ring.specs.declared.ends.SendRefusal.TheVariants.{Spent, Exited, NoMemory}
 use Rattle.lw_ring.specs.Ends.{Sender, Receiver}
-use Rattle.lw_ring.specs.Queue.{Saw, most_sent}
+use Rattle.lw_latch.specs.RingWord.{most_sent}
+use Rattle.lw_ring.specs.Queue.{Saw}
 
 -- the messages name the sender, and the numbers from this one on
 abbrev pub NamedFrom : {T L : Type 0} → (T → L) → (L → Tag) → ℕ → ℕ → List T → Type 0

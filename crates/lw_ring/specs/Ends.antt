@@ -6,7 +6,7 @@ use Rattle.atomic_table.specs.Seated.{TableId}
 use Rattle.crossbeam_queue.specs.SegTies.{SegId}
 use Rattle.lw_latch.specs.RingEnds.{RingEnd}
 use Rattle.lw_ring.specs.declared.queue.PassView.{PassView}
-use Rattle.lw_ring.specs.Queue.{most_senders}
+use Rattle.lw_latch.specs.RingWord.{most_senders}
 
 -- a sending end
 pub record Sender (L F : Type 0) : Type 0 where

@@ -2,7 +2,8 @@
 ghost use Rattle.std.specs.Prelude.{◌≡◌, ◌+◌, ◌<◌, ◌≤◌, true, false, [], ◌∷◌, ◌++◌, length, map, All, IfErr, OnOk};
 ghost use Rattle.crossbeam_queue.specs.SegTies.{IsSegPassOf};
 ghost use Rattle.lw_base.specs.Letters.{Names, Numbered, FitsRing};
-ghost use Rattle.lw_ring.specs.Queue.{contents, most_sent, Sends};
+ghost use Rattle.lw_latch.specs.RingWord.{most_sent};
+ghost use Rattle.lw_ring.specs.Queue.{contents, Sends};
 ghost use Rattle.lw_ring.specs.Calls.{AfterRefusal, NamedFrom};
 
 use crate::gate;
@@ -61,7 +62,7 @@ impl<T: Tagged + Drop> Model for SendEnd<T> {
     ghost use Rattle.std.specs.Arc.{arc_value};
     ghost use Rattle.crossbeam_queue.specs.SegTies.{IsSegPassOf};
     ghost use Rattle.lw_base.specs.Letters.{Numbered};
-    ghost use Rattle.lw_ring.specs.Queue.{most_sent};
+    ghost use Rattle.lw_latch.specs.RingWord.{most_sent};
     ghost use Rattle.lw_ring.specs.Ends.{Sender, latch_id, found_of, Outside, SenderView};
 
     ghost Value = { Sender T.Letter T.Family };

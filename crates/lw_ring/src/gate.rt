@@ -1,6 +1,6 @@
 //! A ring's latch, where it has one. Where it has none, everybody is let in and nothing is counted.
-ghost use Rattle.std.specs.Prelude.{◌≡◌, ℕ, ◌+◌, ◌<◌, ◌≤◌, ◌≢◌, ◌*◌, ◌^◌, IsSome};
-ghost use Rattle.lw_ring.specs.Queue.{most_sent, above_all_sent};
+ghost use Rattle.std.specs.Prelude.{◌≡◌, ℕ, ◌+◌, ◌<◌, ◌≤◌, ◌≢◌, ◌*◌, IsSome};
+ghost use Rattle.lw_latch.specs.RingWord.{most_sent, above_all_sent, finished_unit};
 ghost use Rattle.lw_ring.specs.Ends.{latch_id, found_of, closed_of, tries_of, seen_of, Outside, Inside, Receiving};
 
 use lw_latch::{Closing, Enter, LatchRecv, LatchSend};
@@ -62,7 +62,7 @@ pub fn close(latch: &mut Option<LatchRecv>, taken: u64) -> Closing
         (closed_of latch.new ≡ 0)
         × (tries_of latch.new ≡ tries_of latch.old + 1)
         × (seen_of latch.new ≡ seen)
-        × (seen ≢ taken * 2 ^ 17) }
+        × (seen ≢ taken * finished_unit) }
 {
     match latch {
         Some(latch) => latch.close(taken),

@@ -1,7 +1,8 @@
 //! The receiving end of a ring.
-ghost use Rattle.std.specs.Prelude.{◌≡◌, ◌≢◌, ℕ, ◌+◌, ◌*◌, ◌^◌, ◌<◌, ◌≤◌, true, false, [], ◌++◌, length, map, reverse, IfSome, All, IsSome, MatchOption, vec_capacity};
+ghost use Rattle.std.specs.Prelude.{◌≡◌, ◌≢◌, ℕ, ◌+◌, ◌*◌, ◌<◌, ◌≤◌, true, false, [], ◌++◌, length, map, reverse, IfSome, All, IsSome, MatchOption, vec_capacity};
 ghost use Rattle.crossbeam_queue.specs.SegTies.{IsSegPassOf};
-ghost use Rattle.lw_ring.specs.Queue.{above_all_sent, contents, AllFit, Takes, TakenOff, Saw};
+ghost use Rattle.lw_latch.specs.RingWord.{above_all_sent, finished_unit};
+ghost use Rattle.lw_ring.specs.Queue.{contents, AllFit, Takes, TakenOff, Saw};
 ghost use Rattle.lw_ring.specs.Calls.{EmptyAt, InTurn};
 ghost use Rattle.lw_ring.specs.Ends.{IsSpare};
 
@@ -36,7 +37,8 @@ impl<T: Tagged + Drop> Model for RecvEnd<T> {
     ghost use Rattle.std.specs.Arc.{arc_value};
     ghost use Rattle.crossbeam_queue.specs.SegTies.{IsSegPassOf};
     ghost use Rattle.lw_base.specs.Letters.{total_length};
-    ghost use Rattle.lw_ring.specs.Queue.{above_all_sent, AllFit};
+    ghost use Rattle.lw_latch.specs.RingWord.{above_all_sent};
+    ghost use Rattle.lw_ring.specs.Queue.{AllFit};
     ghost use Rattle.lw_ring.specs.Ends.{Receiver, latch_id, found_of, closed_of, tries_of, seen_of, Receiving, ReceiverView, IsSpare};
 
     ghost Value = { Receiver T.Letter T.Family };
@@ -287,7 +289,7 @@ impl<T: Tagged + Drop> RecvEnd<T> {
             (self.new.closed ≡ 0)
             × (self.new.tries ≡ self.old.tries + 1)
             × (self.new.seen ≡ seen)
-            × (seen ≢ length self.old.taken * 2 ^ 17) }
+            × (seen ≢ length self.old.taken * finished_unit) }
     {
         gate::close(&mut self.latch, self.taken)
     }

@@ -1,8 +1,9 @@
 //! What is known of a ring once all its ends are in one hand.
-ghost use Rattle.std.specs.Prelude.{◌≡◌, ℕ, ◌+◌, ◌^◌, ◌<◌, ◌≤◌, true, false, [], ◌∷◌, ◌++◌, length, map, slice_index_or, All, IfOk, OnOk};
+ghost use Rattle.std.specs.Prelude.{◌≡◌, ℕ, ◌+◌, ◌<◌, ◌≤◌, true, false, [], ◌∷◌, ◌++◌, length, map, slice_index_or, All, IfOk, OnOk};
 ghost use Rattle.crossbeam_queue.specs.SegTies.{IsSegPassOf};
 ghost use Rattle.lw_base.specs.Letters.{sent_by, list_at, Numbered};
-ghost use Rattle.lw_ring.specs.Queue.{above_all_sent, contents, AllFit, TakenOff, Saw};
+ghost use Rattle.lw_latch.specs.RingWord.{above_all_sent};
+ghost use Rattle.lw_ring.specs.Queue.{contents, AllFit, TakenOff, Saw};
 ghost use Rattle.lw_ring.specs.Calls.{InTurn};
 ghost use Rattle.lw_ring.specs.Ends.{IsEnd};
 ghost use Rattle.lw_ring.specs.Settling.{AreAllEnds, all_sent, all_found, whole};
