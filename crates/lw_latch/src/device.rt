@@ -133,13 +133,13 @@ impl DeviceSeat {
             × IsAbove ordinal self.old.view.ordinals }
         ensures shut { result ≡ Give.Shut → self.new ≡ record self.old { view = view_not_given self.old.view } }
     {
-        let found = self
+        let before = self
             .table
             .shared
             .fetch_add::<Giving>(&mut self.seat, 0, GIVEN + OPEN);
-        if found / SHUT % 2 == 0 {
+        if before / SHUT % 2 == 0 {
             return Give::Given {
-                ordinal: found / GIVEN,
+                ordinal: before / GIVEN,
             };
         }
         self.table

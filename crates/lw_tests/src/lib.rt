@@ -3,6 +3,10 @@
 #![tactic(auto)]
 
 #[cfg(test)]
+mod device_latches;
+#[cfg(test)]
+mod devices;
+#[cfg(test)]
 mod images;
 #[cfg(test)]
 mod items;
