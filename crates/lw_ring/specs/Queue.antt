@@ -3,21 +3,11 @@ use Rattle.std.specs.Prelude.{◌≡◌, ◌≢◌, ◌⊎◌, ℕ, ◌+◌, ◌
 use mathlib.Core.Option.{some}
 use lib.ListN.{get_elem?}
 use Rattle.lw_base.specs.declared.message.Tag.{Tag}
+use Rattle.lw_latch.specs.RingWord.{most_senders, most_sent, above_all_sent}
 use Rattle.lw_base.specs.Letters.{sent_by, list_at, FitsRing}
 use Rattle.lw_ring.specs.declared.queue.PassView.{PassView}
 use Rattle.lw_ring.specs.declared.parcel.Parcel.{Parcel}
 use Rattle.lw_ring.specs.declared.parcel.Parcel.TheVariants.{One, Run}
-
--- the most that one end sends, and more than all ends of a ring send together
-abbrev pub most_sent : ℕ
-most_sent = 1099511627776
-
-abbrev pub above_all_sent : ℕ
-above_all_sent = 140737488355328
-
--- the most senders of a ring
-abbrev pub most_senders : ℕ
-most_senders = 127
 
 -- the messages of a parcel, and of several, oldest first
 abbrev pub contents : {T : Type 0} → Parcel T → List T
@@ -67,7 +57,7 @@ module _ {L F : Type 0} where
 -- was taken, and the ring's number and family
 pub record Facts (L F : Type 0) : Type 0 where
   pub reader : ℕ
-  pub seat : ℕ → ℕ
+  pub pass_of : ℕ → ℕ
   pub sent : ℕ → List L
   pub got : List L
   pub number : ℕ
@@ -76,7 +66,7 @@ pub record Facts (L F : Type 0) : Type 0 where
 module _ {L F : Type 0} where
   -- what a sender's pass knows is so
   pub record FitsSender (f : Facts L F) (i : ℕ) (v : PassView L F) : Type 0 where
-    pub its_seat : f.seat v.from ≡ i
+    pub its_pass : f.pass_of v.from ≡ i
     pub apart : i ≢ f.reader
     pub put : v.put ≡ f.sent v.from
     pub number : v.number ≡ f.number
@@ -84,13 +74,13 @@ module _ {L F : Type 0} where
 
   -- what the receiver's pass knows is so, and a sender that is not yet made has sent nothing
   pub record FitsReceiver (f : Facts L F) (i : ℕ) (v : PassView L F) : Type 0 where
-    pub its_seat : i ≡ f.reader
+    pub its_pass : i ≡ f.reader
     pub alone : v.sends ≡ false
     pub got : v.got ≡ f.got
     pub number : v.number ≡ f.number
     pub family : v.family ≡ f.family
-    pub later : (p : ℕ) → v.made ≤ p → (f.seat p ≡ f.reader) × (f.sent p ≡ [])
-    pub known : (k : ℕ) → k < length v.known → (f.seat k ≡ f.reader) × (list_at v.known k ≡ f.sent k)
+    pub later : (p : ℕ) → v.made ≤ p → (f.pass_of p ≡ f.reader) × (f.sent p ≡ [])
+    pub known : (k : ℕ) → k < length v.known → (f.pass_of k ≡ f.reader) × (list_at v.known k ≡ f.sent k)
     pub few : v.made ≤ most_senders
     pub taken_in : length v.known ≤ v.made
 

@@ -2,10 +2,11 @@
 ghost use Rattle.std.specs.Prelude.{◌≡◌, ◌+◌, ◌<◌, ◌≤◌, true, false, [], ◌∷◌, ◌++◌, length, map, All, IfErr, OnOk};
 ghost use Rattle.crossbeam_queue.specs.SegTies.{IsSegPassOf};
 ghost use Rattle.lw_base.specs.Letters.{Names, Numbered, FitsRing};
-ghost use Rattle.lw_ring.specs.Queue.{contents, most_sent, Sends};
+ghost use Rattle.lw_latch.specs.RingWord.{most_sent};
+ghost use Rattle.lw_ring.specs.Queue.{contents, Sends};
 ghost use Rattle.lw_ring.specs.Calls.{AfterRefusal, NamedFrom};
 
-use crate::gate;
+use crate::latching;
 use crate::parcel::Parcel;
 use crate::queue::{Pass, Queue, Sending};
 use lw_base::Tagged;
@@ -31,18 +32,18 @@ impl<T: Tagged + Drop> Drop for Shared<T> {
     }
 }
 
-/// Why a message was not sent. It comes back.
+/// Why a message was not sent, or a run of them. It comes back.
 #[derive(Debug, Drop, Error)]
 #[error_bound(T: Debug)]
 pub enum SendRefusal<T> {
-    /// This end has sent 2^40 messages, the most that it can.
-    #[error("the sender has sent as many messages as it can")]
+    /// With it, or with the run, this end would have sent more than 2^40 messages, the most that it can.
+    #[error("the sender would have sent more messages than it can")]
     Spent(T),
     /// The receiver has closed the ring.
     #[error("the receiver has closed the ring")]
     Exited(T),
-    /// There was no memory for it.
-    #[error("there was no memory for the message")]
+    /// There was no memory for it. The ring was not found closed.
+    #[error("there was no memory to send")]
     NoMemory(T),
 }
 
@@ -61,7 +62,7 @@ impl<T: Tagged + Drop> Model for SendEnd<T> {
     ghost use Rattle.std.specs.Arc.{arc_value};
     ghost use Rattle.crossbeam_queue.specs.SegTies.{IsSegPassOf};
     ghost use Rattle.lw_base.specs.Letters.{Numbered};
-    ghost use Rattle.lw_ring.specs.Queue.{most_sent};
+    ghost use Rattle.lw_latch.specs.RingWord.{most_sent};
     ghost use Rattle.lw_ring.specs.Ends.{Sender, latch_id, found_of, Outside, SenderView};
 
     ghost Value = { Sender T.Letter T.Family };
@@ -104,30 +105,31 @@ impl<T: Tagged + Drop> SendEnd<T> {
     /// Sends a message, which stands last in this end's sent list from then on. It takes no memory for itself.
     ///
     /// A refused one comes back, and the sent list stays as it is. It is refused as `Spent` exactly where 2^40 were
-    /// sent, and as `Exited` only where this call's own step found the ring's latch closed. The message names this end
-    /// and the number that comes next, and fits the ring.
+    /// sent, and as `Exited` only where this call's own step found the ring's latch closed. After an `Exited` this end
+    /// sends nothing more. The message names this end and the number that comes next, and fits the ring.
     pub fn send<R: Wait>(&mut self, rt: &R, value: T) -> Result<(), SendRefusal<T>>
         requires names { Names (T.tag_of (T.letter value)) self.old.sender (length self.old.sent) }
         requires fits { FitsRing T.fits self.old.number self.old.family value }
         ensures same { self.new ≡ record self.old { sent = self.new.sent; found = self.new.found } }
         ensures ok { OnOk result (self.new ≡ record self.old { sent = self.old.sent ++ T.letter value ∷ [] }) }
         ensures room { OnOk result (length self.old.sent < most_sent) }
+        ensures not_exited { OnOk result (self.old.found ≡ 0) }
         ensures refused { IfErr result (λ r. AfterRefusal r value 1 self.old self.new) }
     {
         if self.sent == MOST_SENT {
             return Err(SendRefusal::Spent(value));
         }
-        if gate::enter(&mut self.latch) == Enter::Closed {
+        if latching::enter(&mut self.latch) == Enter::Closed {
             return Err(SendRefusal::Exited(value));
         }
         match push(rt, &self.shared.queue, &mut self.pass, Parcel::One(value)) {
             Ok(()) => {
-                gate::finish(&mut self.latch, 1);
+                latching::finish(&mut self.latch, 1);
                 self.sent += 1;
                 Ok(())
             }
             Err(Parcel::One(value)) => {
-                gate::cancel(&mut self.latch);
+                latching::cancel(&mut self.latch);
                 Err(SendRefusal::NoMemory(value))
             }
             Err(Parcel::Run(_)) => unreachable!(),
@@ -147,23 +149,24 @@ impl<T: Tagged + Drop> SendEnd<T> {
         ensures same { self.new ≡ record self.old { sent = self.new.sent; found = self.new.found } }
         ensures ok { OnOk result (self.new ≡ record self.old { sent = self.old.sent ++ map T.letter run.items }) }
         ensures room { OnOk result (length self.old.sent + length run.items ≤ most_sent) }
+        ensures not_exited { OnOk result (self.old.found ≡ 0) }
         ensures refused { IfErr result (λ r. AfterRefusal r run (length run.items) self.old self.new) }
     {
         let count = run.len() as u64;
         if count > MOST_SENT - self.sent {
             return Err(SendRefusal::Spent(run));
         }
-        if gate::enter(&mut self.latch) == Enter::Closed {
+        if latching::enter(&mut self.latch) == Enter::Closed {
             return Err(SendRefusal::Exited(run));
         }
         match push(rt, &self.shared.queue, &mut self.pass, Parcel::Run(run)) {
             Ok(()) => {
-                gate::finish(&mut self.latch, count);
+                latching::finish(&mut self.latch, count);
                 self.sent += count;
                 Ok(())
             }
             Err(Parcel::Run(run)) => {
-                gate::cancel(&mut self.latch);
+                latching::cancel(&mut self.latch);
                 Err(SendRefusal::NoMemory(run))
             }
             Err(Parcel::One(_)) => unreachable!(),
