@@ -7,6 +7,24 @@ use Rattle.atomic_table.specs.Table.{State, Me, Step}
 use Rattle.lw_latch.specs.declared.ring_view.RingView.{RingView}
 use Rattle.lw_base.specs.Totals.{total}
 
+-- the most senders of a ring
+abbrev pub most_senders : ℕ
+most_senders = 127
+
+-- the most messages that one sender finishes, 2^40, and more than all of a ring finish together, 2^47
+abbrev pub most_sent : ℕ
+most_sent = 1099511627776
+
+abbrev pub above_all_sent : ℕ
+above_all_sent = 140737488355328
+
+-- what the closed bit and one finished message add to the word: 2^16 and 2^17
+abbrev pub closed_unit : ℕ
+closed_unit = 65536
+
+abbrev pub finished_unit : ℕ
+finished_unit = 131072
+
 abbrev pub parts : RingView → ℕ
 parts v = v.parts
 
@@ -27,7 +45,7 @@ count v = v.count
 
 -- the word that the views make
 abbrev pub word_of : List RingView → ℕ
-word_of vs = total inside vs + 65536 * total closed vs + 131072 * total finished vs
+word_of vs = total inside vs + closed_unit * total closed vs + finished_unit * total finished vs
 
 -- the words of the table: the latch's stands alone, with unused ones before and behind it, so that what others write next
 -- to the table never lies on its cache line
@@ -36,9 +54,9 @@ alone word = 0 ∷ 0 ∷ 0 ∷ 0 ∷ 0 ∷ 0 ∷ 0 ∷ 0 ∷ word ∷ 0 ∷ 0 �
 
 -- what the rule says of one view of a latch that `shut` seats have closed
 pub record Fits (shut : ℕ) (v : RingView) : Type 0 where
-  -- only a sender is inside, and it has finished at most 2^40 messages
+  -- only a sender is inside, and no sender finishes more than it may
   pub inside_parts : v.inside ≤ v.parts
-  pub finished_parts : v.finished ≤ 1099511627776 * v.parts
+  pub finished_parts : v.finished ≤ most_sent * v.parts
   -- only the receiver closes, and only then has a count
   pub closes : v.closed ≤ v.receives
   pub counts : v.closed ≡ 0 → v.count ≡ 0
@@ -48,7 +66,7 @@ pub record Fits (shut : ℕ) (v : RingView) : Type 0 where
 
 -- the rule: the word is what the views make, and in a closed latch the finished messages are those it was closed at
 pub record Latched (s : State (Unit {0}) RingView) : Type 0 where
-  pub all_parts : total parts s.views ≡ 127
+  pub all_parts : total parts s.views ≡ most_senders
   pub one_receiver : total receives s.views ≡ 1
   pub word : s.words ≡ alone (word_of s.views)
   pub settled : 1 ≤ total closed s.views → total finished s.views ≡ total count s.views
@@ -56,7 +74,7 @@ pub record Latched (s : State (Unit {0}) RingView) : Type 0 where
 
 -- a new latch's one view
 abbrev pub first_view : RingView
-first_view = record { parts = 127; receives = 1; inside = 0; finished = 0; found = 0; closed = 0; count = 0; tries = 0; seen = 0 }
+first_view = record { parts = most_senders; receives = 1; inside = 0; finished = 0; found = 0; closed = 0; count = 0; tries = 0; seen = 0 }
 
 -- the view of a seat that was joined away
 abbrev pub spent_view : RingView
@@ -86,7 +104,7 @@ joined v w = record {
 
 -- 1 where the word has the closed bit, else 0
 abbrev pub closed_bit : ℕ → ℕ
-closed_bit word = word / 65536 % 2
+closed_bit word = word / closed_unit % 2
 
 -- a seat: its view, and the slots that it holds, none here
 abbrev Sat : Type 0
@@ -102,15 +120,15 @@ abbrev pub Leaves : Step (Unit {0}) → Sat → ℕ → Sat → Type 0
 Leaves step old word new = new ≡ (record old.0 { inside = 0 }, old.1)
 
 abbrev pub Finishes : Step (Unit {0}) → Sat → ℕ → Sat → Type 0
-Finishes step old word new = new ≡ (record old.0 { inside = 0; finished = old.0.finished + (step.first + 1) / 131072 }, old.1)
+Finishes step old word new = new ≡ (record old.0 { inside = 0; finished = old.0.finished + (step.first + 1) / finished_unit }, old.1)
 
 abbrev pub TriesToClose : Step (Unit {0}) → Sat → ℕ → Sat → Type 0
 TriesToClose step old word new =
-    (word ≡ step.first → new ≡ (record old.0 { closed = 1; count = step.first / 131072 }, old.1))
+    (word ≡ step.first → new ≡ (record old.0 { closed = 1; count = step.first / finished_unit }, old.1))
     × (word ≢ step.first → new ≡ (record old.0 { tries = old.0.tries + 1; seen = word }, old.1))
 
 -- a seat that has all parts learns that the word is its own, and what follows from the closed bit
 abbrev pub Learns : Step (Unit {0}) → Sat → ℕ → Sat → Type 0
 Learns step old word new =
     (new ≡ old)
-    × (old.0.parts ≡ 127 → old.0.receives ≡ 1 → (word ≡ word_of (old.0 ∷ [])) × (1 ≤ old.0.closed → old.0.finished ≡ old.0.count) × (1 ≤ old.0.found → old.0.closed ≡ 1))
+    × (old.0.parts ≡ most_senders → old.0.receives ≡ 1 → (word ≡ word_of (old.0 ∷ [])) × (1 ≤ old.0.closed → old.0.finished ≡ old.0.count) × (1 ≤ old.0.found → old.0.closed ≡ 1))

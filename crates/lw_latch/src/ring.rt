@@ -1,6 +1,6 @@
 //! The latch of a ring: any number of senders up to 127, and one receiver that closes it.
-ghost use Rattle.std.specs.Prelude.{◌≡◌, ◌≢◌, ℕ, ◌+◌, ◌-◌, ◌*◌, ◌^◌, ◌<◌, ◌≤◌, length, All, IfOk};
-ghost use Rattle.lw_latch.specs.RingWord.{first_view, sender_view, joined};
+ghost use Rattle.std.specs.Prelude.{◌≡◌, ◌≢◌, ℕ, ◌+◌, ◌-◌, ◌*◌, ◌<◌, ◌≤◌, length, All, IfOk};
+ghost use Rattle.lw_latch.specs.RingWord.{most_senders, most_sent, above_all_sent, closed_unit, finished_unit, first_view, sender_view, joined};
 ghost use Rattle.lw_latch.specs.RingEnds.{IsSender, new_sender};
 
 use crate::ring_view::{
@@ -18,10 +18,10 @@ const WORDS: usize = 16;
 
 const WORD: usize = 8;
 
-/// The closed bit. Below it the word counts the senders inside.
+/// What the closed bit adds to the word. Below it the word counts the senders inside.
 const CLOSED: u64 = 65_536;
 
-/// One finished message, in the bits above the closed bit.
+/// What one finished message adds, in the bits above the closed bit.
 const FINISHED: u64 = 131_072;
 
 /// What `enter` found.
@@ -117,7 +117,7 @@ impl LatchSend {
     pub fn finish(&mut self, count: u64)
         requires inside { self.old.view.inside ≡ 1 }
         requires some { 1 ≤ count }
-        requires room { self.old.view.finished + count ≤ 2 ^ 40 }
+        requires room { self.old.view.finished + count ≤ most_sent }
         ensures { self.new ≡ record self.old {
           view =
               record self.old.view { inside = 0; finished = self.old.view.finished + count };
@@ -145,7 +145,7 @@ impl LatchRecv {
     /// `NotYet` comes exactly where the word was another one.
     pub fn close(&mut self, taken: u64) -> Closing
         requires open { self.old.view.closed ≡ 0 }
-        requires taken { taken < 2 ^ 47 }
+        requires taken { taken < above_all_sent }
         ensures closed { result ≡ Closing.Closed →
             self.new ≡ record self.old { view = record self.old.view { closed = 1; count = taken } } }
         ensures not_yet { (seen : ℕ) → result ≡ Closing.NotYet seen →
@@ -153,7 +153,7 @@ impl LatchRecv {
               view =
                   record self.old.view { tries = self.old.view.tries + 1; seen = seen };
             })
-            × (seen ≢ taken * 2 ^ 17) }
+            × (seen ≢ taken * finished_unit) }
     {
         let all_taken = taken * FINISHED;
         let seen = self
@@ -183,9 +183,9 @@ impl LatchRecv {
     /// Where the latch is closed, what all senders finished is what it was closed at. Where one of them found it
     /// closed, it is.
     pub fn learn(&mut self) -> u64
-        requires { self.old.view.parts ≡ 127 }
+        requires { self.old.view.parts ≡ most_senders }
         ensures same { self.new ≡ self.old }
-        ensures word { result ≡ 65536 * self.old.view.closed + 131072 * self.old.view.finished }
+        ensures word { result ≡ closed_unit * self.old.view.closed + finished_unit * self.old.view.finished }
         ensures settled { 1 ≤ self.old.view.closed → self.old.view.finished ≡ self.old.view.count }
         ensures found { 1 ≤ self.old.view.found → self.old.view.closed ≡ 1 }
     {
@@ -207,8 +207,8 @@ impl LatchRecv {
 
 /// A new latch with its ends, open and with nobody inside.
 pub fn ring_latch(alloc: Global, senders: u32) -> Result<(LatchRecv, Vec<LatchSend>), NoMemory>
-    requires { (1 ≤ senders) × (senders ≤ 127) }
-    ensures recv { IfOk result (λ r. r.0.view ≡ record first_view { parts = 127 - senders }) }
+    requires { (1 ≤ senders) × (senders ≤ most_senders) }
+    ensures recv { IfOk result (λ r. r.0.view ≡ record first_view { parts = most_senders - senders }) }
     ensures count { IfOk result (λ r. length r.1.items ≡ senders) }
     ensures ends { IfOk result (λ r. All (λ s. s ≡ new_sender r.0.latch) r.1.items) }
 {

@@ -37,7 +37,7 @@ impl TableRule<(), RingView, ()> for RingRule {
     ghost first = { λ _. first_view };
 }
 
-/// The table of one word, without slots.
+/// The latch's table: its one word and unused ones around it, without slots.
 pub type RingTable = Table<(), RingView, (), RingRule, Global>;
 
 pub struct Entering;

@@ -1,5 +1,5 @@
 -- Seats gathered into one.
-use Rattle.std.proofs.Common.{◌≡◌, ℕ, zero, suc, ◌+◌, ◌<◌, ◌≤◌, max, List, [], ◌∷◌, ◌++◌, length, map, refl, sym, ap, subst, ◌∙◌, ⊎_elim, arith, All, Any, Contains, if◌then◌else◌}
+use Rattle.std.proofs.Common.{◌≡◌, ℕ, zero, suc, ◌+◌, ◌<◌, ◌≤◌, max, List, [], ◌∷◌, ◌++◌, length, map, refl, sym, ap, subst, ◌∙◌, ⊎_elim, arith, All, Any, Contains}
 use Rattle.std.specs.Prelude.{slice_index_or}
 use Rattle.std.proofs.lemmas.List.{length-map, get_or_push, get_or_append_left}
 use Rattle.std.proofs.lemmas.List.Elements.{All-map, All-contains}
@@ -90,14 +90,6 @@ nil_from_length (x ∷ xs) e = absurd (omega arith)
 -- where all of these have ended, each has
 pub ends_there : (ts : List ThreadEnd) (k : ℕ) (p : Place) → All (λ t. t.place ≡ place.Ended) ts → StandsAt (map stand ts) k p → p ≡ place.Ended
 ends_there ts k p ended at = All-contains (λ (x : Stand). x.place ≡ place.Ended) (map stand ts) (record { thread = k; place = p }) (All-map (λ (x : Stand). x.place ≡ place.Ended) stand ts ended) at.among
-
--- all threads' seats are there
-pub all_seats : (ts : List ThreadEnd) (ds : List DeskEnd) (w : BundleEnd) (a : AreAllSeats ts ds) → Gathered a.places ts ds w → length w.view.stands ≡ w.view.threads → All (λ d. length ts ≡ d.places.threads) ds
-all_seats ts ds w a g all = λ k d l.
-    let n = ap (λ (p : Places). p.threads) (g.of) in
-    let its = ap (λ (p : Places). p.threads) (a.its_desks k d l) in
-    let long : length w.view.stands ≡ length ts = ap length g.stands ∙ length-map ts stand in
-    omega arith
 
 -- a thread that stands among these is there
 pub times_among : (t : ℕ) (p : Place) (xs : List Stand) → Contains xs (record { thread = t; place = p }) → 1 ≤ times t xs

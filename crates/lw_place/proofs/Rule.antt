@@ -5,6 +5,7 @@ use mathlib.Core.Option.{some}
 use lib.ListN.{get_elem?}
 use Rattle.atomic_table.specs.Table.{State}
 use Rattle.atomic_table.proofs.Lists.{at_set}
+use Rattle.lw_place.specs.PlaceWord.{most_threads}
 use Rattle.lw_place.specs.declared.table.Homes.{Homes}
 use Rattle.lw_place.specs.declared.table.PlaceView.{PlaceView}
 use Rattle.lw_base.specs.Totals.{total}
@@ -31,7 +32,7 @@ pub record Makes (homes : Homes) (s : St) (id : ℕ) (v w : PlaceView) (ws : Lis
   pub halt : slice_index ws 1 ≡ min 1 (total halted (set s.views id w))
   pub apart : (j : ℕ) (u : PlaceView) → j ≢ id → get_elem? s.views j ≡ some u → All (IsStanding (length homes.of.items) homes.reactors ws) u.stands
   pub own : All (IsStanding (length homes.of.items) homes.reactors ws) w.stands
-  pub retired_desks : w.retired ≤ 127 * w.desks
+  pub retired_desks : w.retired ≤ most_threads * w.desks
   pub halted_desks : w.halted ≤ w.desks
   pub done_seen : w.done_seen ≤ slice_index ws 0
   pub halt_seen : w.halt_seen ≤ total halted (set s.views id w)

@@ -9,7 +9,7 @@ use Rattle.lw_place.specs.declared.table.Stand.{Stand}
 use Rattle.lw_place.specs.declared.table.Homes.{Homes}
 use Rattle.lw_place.specs.declared.table.PlaceView.{PlaceView}
 use Rattle.lw_base.specs.Totals.{total}
-use Rattle.lw_place.specs.PlaceWord.{word_of, place_of, IsBelow, IsWord}
+use Rattle.lw_place.specs.PlaceWord.{most_threads, word_of, place_of, IsBelow, IsWord}
 use Rattle.lw_place.specs.PlaceTable.{desks, retired, halted, seats, seats_of, times, moved_to, IsStanding, Placed, Moves, Retires, Halts, LooksAtDone, LooksAtHalt, Looks, LearnsDone, LearnsHalt, Learns}
 use Rattle.lw_base.proofs.Totals.{total_set, at_le, others_none, total_only, some_view}
 use Rattle.lw_place.proofs.Words.{place_in_word, is_word}
@@ -88,7 +88,7 @@ pub moves_to : (homes : Homes) (slots id : ℕ) (me : Sat) (x : Stand) (p : Plac
 moves_to homes slots id me x p word e is few some_threads below =
     subst (λ k. Allows (Placed homes) slots id me (x.thread + 2) (λ _. k) (λ _. Moves (step slots (x.thread + 2) k 0 none) me k)) (sym e) (moves homes slots id me x p is few some_threads below)
 
-pub retires : (homes : Homes) (slots id : ℕ) (me : Sat) → me.0.desks ≡ 1 → me.0.retired < 127
+pub retires : (homes : Homes) (slots id : ℕ) (me : Sat) → me.0.desks ≡ 1 → me.0.retired < most_threads
     → Allows (Placed homes) slots id me 0 (λ n. (n + 1) % 2 ^ 64) (Retires (step slots 0 1 0 none) me)
 retires homes slots id me one_desk room s h _ at small =
     let v = me.0 in
@@ -100,7 +100,7 @@ retires homes slots id me one_desk room s h _ at small =
     let is_done = h.done in
     let few = h.few in
     let all = h.all_desks in
-    let few_done : total retired s.views ≤ 127 * total desks s.views = bounded s.views (λ j u e. (h.each j u e).retired_desks) in
+    let few_done : total retired s.views ≤ most_threads * total desks s.views = bounded s.views (λ j u e. (h.each j u e).retired_desks) in
     let is : slice_index ws 0 ≡ n + 1 = get_or-set_same s.words 0 ((n + 1) % 18446744073709551616) 0 (omega arith) ∙ omega arith in
     let th = total_set halted s.views id v w at in (
       w,
@@ -121,7 +121,7 @@ retires homes slots id me one_desk room s h _ at small =
       refl,
     )
   where
-    bounded : (vs : List PlaceView) → ((j : ℕ) (u : PlaceView) → get_elem? vs j ≡ some u → u.retired ≤ 127 * u.desks) → total retired vs ≤ 127 * total desks vs
+    bounded : (vs : List PlaceView) → ((j : ℕ) (u : PlaceView) → get_elem? vs j ≡ some u → u.retired ≤ most_threads * u.desks) → total retired vs ≤ most_threads * total desks vs
     bounded [] each = omega arith
     bounded (u ∷ us) each = let one = each 0 u refl in let r = bounded us (λ j x e. each (suc j) x e) in omega arith
 

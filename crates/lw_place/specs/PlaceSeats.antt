@@ -6,6 +6,7 @@ use Rattle.lw_place.specs.declared.place.Place.{Place}
 use Rattle.lw_place.specs.declared.table.Stand.{Stand}
 use Rattle.lw_place.specs.declared.table.PlaceView.{PlaceView}
 use Rattle.lw_base.specs.Totals.{total}
+use Rattle.lw_place.specs.PlaceWord.{most_threads, most_reactors}
 use Rattle.lw_place.specs.PlaceTable.{new_view}
 
 -- which places: their table, and how many threads and reactors they are for
@@ -56,8 +57,8 @@ IsEvent p = (reactor : ℕ) × (p ≡ place.Event reactor)
 pub record IsSeat (table : TableId) (v : PlaceView) : Type 0 where
   pub words : table.words ≡ v.threads + 2
   pub some_threads : 1 ≤ v.threads
-  pub few_threads : v.threads ≤ 127
-  pub few_reactors : v.reactors ≤ 16
+  pub few_threads : v.threads ≤ most_threads
+  pub few_reactors : v.reactors ≤ most_reactors
 
 -- the view of a thread's seat
 abbrev pub thread_view : ℕ → ℕ → Stand → PlaceView

@@ -10,7 +10,7 @@ use Rattle.lw_place.specs.declared.table.Stand.{Stand}
 use Rattle.lw_place.specs.declared.table.Homes.{Homes}
 use Rattle.lw_place.specs.declared.table.PlaceView.{PlaceView}
 use Rattle.lw_base.specs.Totals.{total}
-use Rattle.lw_place.specs.PlaceWord.{word_of, place_of, IsBelow, IsWord}
+use Rattle.lw_place.specs.PlaceWord.{most_threads, most_reactors, word_of, place_of, IsBelow, IsWord}
 
 abbrev pub desks : PlaceView → ℕ
 desks v = v.desks
@@ -44,7 +44,7 @@ pub record Fits (threads reactors : ℕ) (words : List ℕ) (done halts : ℕ) (
   pub of_table : 1 ≤ v.threads → (v.threads ≡ threads) × (v.reactors ≡ reactors)
   pub standing : All (IsStanding threads reactors words) v.stands
   -- a desk retires at most as many threads as there can be
-  pub retired_desks : v.retired ≤ 127 * v.desks
+  pub retired_desks : v.retired ≤ most_threads * v.desks
   -- only a desk halts the run
   pub halted_desks : v.halted ≤ v.desks
   -- what was seen of the count and of the halt word is so
@@ -54,7 +54,7 @@ pub record Fits (threads reactors : ℕ) (words : List ℕ) (done halts : ℕ) (
 -- the rule: each thread has one seat and its word is the place that the seat keeps, the count is what all desks have
 -- retired, and the halt word is 1 exactly where a desk has halted
 pub record Placed (homes : Homes) (s : State (Unit {0}) PlaceView) : Type 0 where
-  pub few : homes.reactors ≤ 16
+  pub few : homes.reactors ≤ most_reactors
   pub words : length s.words ≡ length homes.of.items + 2
   pub done : slice_index s.words 0 ≡ total retired s.views
   pub halt : slice_index s.words 1 ≡ min 1 (total halted s.views)

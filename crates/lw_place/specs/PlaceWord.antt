@@ -3,15 +3,26 @@ use Rattle.std.specs.Prelude.{◌≢◌, ℕ, ◌+◌, ◌*◌, ◌/◌, ◌%◌
 use Rattle.lw_place.specs.declared.place.Place.{Place}
 use Rattle.lw_place.specs.declared.place.Place.TheVariants as place
 
+-- the most light threads and reactors
+abbrev pub most_threads : ℕ
+most_threads = 127
+
+abbrev pub most_reactors : ℕ
+most_reactors = 16
+
+-- the word of a thread that has ended
+abbrev pub ended_word : ℕ
+ended_word = 18446744073709551615
+
 abbrev pub word_of : Place → ℕ
 word_of (place.List reactor) = 2 * reactor
 word_of (place.Event reactor) = 2 * reactor + 1
-word_of place.Ended = 18446744073709551615
+word_of place.Ended = ended_word
 
 -- the place that a word holds
 abbrev pub place_of : ℕ → Place
 place_of word =
-    if word == 18446744073709551615 then place.Ended
+    if word == ended_word then place.Ended
     else if word % 2 == 0 then place.List (word / 2)
     else place.Event (word / 2)
 
@@ -21,6 +32,6 @@ IsBelow reactors (place.List reactor) = reactor < reactors
 IsBelow reactors (place.Event reactor) = reactor < reactors
 IsBelow reactors place.Ended = ⊤
 
--- the word is the last one, or that of a reactor whose number fits 32 bits
+-- the word is that of an ended thread, or of a reactor whose number fits 32 bits
 abbrev pub IsWord : ℕ → Type 0
-IsWord word = word ≢ 18446744073709551615 → word < 8589934592
+IsWord word = word ≢ ended_word → word < 2 * 4294967296

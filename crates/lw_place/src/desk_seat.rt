@@ -1,6 +1,6 @@
 //! A reactor's desk.
 ghost use Rattle.std.specs.Prelude.{◌≡◌, ◌+◌, ◌<◌, ◌≤◌, max, true, false, [], Some};
-ghost use Rattle.lw_place.specs.PlaceWord.{IsBelow};
+ghost use Rattle.lw_place.specs.PlaceWord.{IsBelow, most_threads};
 ghost use Rattle.lw_place.specs.PlaceSeats.{desk_of};
 
 use crate::bundle::Bundle;
@@ -40,9 +40,9 @@ impl Model for DeskSeat {
 }
 
 impl DeskSeat {
-    /// Counts one more thread as retired.
+    /// Counts one more thread as retired. A desk retires 127 at most.
     pub fn retire(&mut self)
-        requires { self.old.retired < 127 }
+        requires { self.old.retired < most_threads }
         ensures { self.new ≡ record self.old { retired = self.old.retired + 1 } }
     {
         self.table

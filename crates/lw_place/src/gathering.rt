@@ -35,8 +35,7 @@ pub fn gather(
     requires { AreAllSeats threads.items desks.items }
     ensures count { IfOk result (λ w.
         All (λ d. length w.places.items ≡ d.places.threads) desks.items) }
-    ensures seats { IfOk result (λ _.
-        All (λ d. length threads.items ≡ d.places.threads) desks.items) }
+    ensures seats { IfOk result (λ w. length threads.items ≡ length w.places.items) }
     ensures once { IfOk result (λ w. (t : ℕ) → t < length w.places.items →
         times t (map stand threads.items) ≡ 1) }
     ensures places { IfOk result (λ w. (t : ℕ) (d : Place) → t < length w.places.items →

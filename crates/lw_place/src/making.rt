@@ -1,5 +1,6 @@
 //! How the places of a run are made.
 ghost use Rattle.std.specs.Prelude.{◌≡◌, ℕ, ◌+◌, ◌*◌, ◌%◌, ◌<◌, ◌≤◌, [], ◌∷◌, length, slice_index, All, IfOk};
+ghost use Rattle.lw_place.specs.PlaceWord.{most_threads, most_reactors};
 ghost use Rattle.lw_place.specs.PlaceTable.{first_view, less_first_thread, less_one_desk, words_of};
 ghost use Rattle.lw_place.specs.PlaceSeats.{AreNew, new_desk, places_of};
 
@@ -21,8 +22,8 @@ pub fn places(
     threads: u32,
     reactors: u32,
 ) -> Result<(Vec<ThreadSeat>, Vec<DeskSeat>), NoMemory>
-    requires threads { (1 ≤ threads) × (threads ≤ 127) }
-    requires reactors { (1 ≤ reactors) × (reactors ≤ 16) }
+    requires threads { (1 ≤ threads) × (threads ≤ most_threads) }
+    requires reactors { (1 ≤ reactors) × (reactors ≤ most_reactors) }
     ensures { IfOk result (λ r. AreNew (λ t. t % reactors) threads reactors r.0.items r.1.items) }
 {
     let mut of = Vec::new(alloc);
@@ -34,8 +35,8 @@ pub fn places(
 
 // The places of threads that start in the lists of these homes.
 fn places_from(alloc: Global, homes: Homes) -> Result<(Vec<ThreadSeat>, Vec<DeskSeat>), NoMemory>
-    requires threads { (1 ≤ length homes.of.items) × (length homes.of.items ≤ 127) }
-    requires reactors { homes.reactors ≤ 16 }
+    requires threads { (1 ≤ length homes.of.items) × (length homes.of.items ≤ most_threads) }
+    requires reactors { homes.reactors ≤ most_reactors }
     requires homes { All (λ home. home < homes.reactors) homes.of.items }
     ensures { IfOk result (λ r.
         AreNew (slice_index homes.of.items) (length homes.of.items) homes.reactors r.0.items r.1.items) }
@@ -54,8 +55,8 @@ fn places_from(alloc: Global, homes: Homes) -> Result<(Vec<ThreadSeat>, Vec<Desk
 
 // The table of these homes, with the seat that stands for all.
 fn found(alloc: Global, homes: &Homes) -> Result<Bundle, NoMemory>
-    requires threads { (1 ≤ length homes.now.of.items) × (length homes.now.of.items ≤ 127) }
-    requires reactors { homes.now.reactors ≤ 16 }
+    requires threads { (1 ≤ length homes.now.of.items) × (length homes.now.of.items ≤ most_threads) }
+    requires reactors { homes.now.reactors ≤ most_reactors }
     requires homes { All (λ home. home < homes.now.reactors) homes.now.of.items }
     ensures { IfOk result (λ b. b.view ≡ first_view homes.now) }
 {

@@ -3,6 +3,7 @@ use Rattle.std.proofs.Common.{◌≡◌, ◌≢◌, ℕ, zero, suc, ◌+◌, ◌
 use Rattle.std.proofs.lemmas.List.Elements.{All-nil, All-cons, All-head, All-tail}
 use mathlib.Core.Logic.{dite}
 use native.Mathlib.Decide.{ℕ_discrete, dec_le}
+use Rattle.lw_latch.specs.RingWord.{most_sent}
 use Rattle.lw_base.specs.declared.message.Tag.{Tag}
 use Rattle.lw_base.specs.Letters.{sent_by}
 
@@ -69,7 +70,7 @@ below_bump (suc n) q f g l h here = dite (ℕ_discrete q n)
     (λ e. let r = below_same n f g (λ p k. h p (λ same. omega arith)) in let last = subst (λ (k : ℕ). g k ≡ suc (f k)) e here in omega arith)
     (λ apart. let r = below_bump n q f g (omega arith) h here in let last = h n (λ same. apart (sym same)) in omega arith)
 
-pub below_at_most : (n : ℕ) (f : ℕ → ℕ) → ((p : ℕ) → f p ≤ 1099511627776) → below n f ≤ 1099511627776 * n
+pub below_at_most : (n : ℕ) (f : ℕ → ℕ) → ((p : ℕ) → f p ≤ most_sent) → below n f ≤ most_sent * n
 unfolding below
 below_at_most zero f h = omega arith
 below_at_most (suc n) f h = let r = below_at_most n f h in let one = h n in omega arith

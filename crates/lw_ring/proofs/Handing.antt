@@ -1,13 +1,15 @@
 -- What is handed out of a run, and what stays in hand.
-use Rattle.std.proofs.Common.{◌≡◌, ℕ, zero, suc, ◌+◌, ◌-◌, ◌<◌, ◌≤◌, List, [], ◌∷◌, ◌++◌, map, take, drop, get_or, length, All, true, false, refl, sym, ap, ◌∙◌, subst, arith, append_assoc, length-append}
+use Rattle.std.proofs.Common.{◌≡◌, ℕ, zero, suc, ◌+◌, ◌-◌, ◌<◌, ◌≤◌, List, [], ◌∷◌, ◌++◌, map, take, drop, get_or, length, All, true, false, refl, sym, ap, ◌∙◌, subst, inl, inr, arith, append_assoc, length-append}
 use Rattle.std.proofs.lemmas.List.{map-append, length-map, take-append-drop, length-take}
 use Rattle.std.proofs.Math.Seq.{drop-append_seam, take-append_seam}
 use Rattle.lw_base.specs.declared.message.Tag.{Tag}
+use Rattle.std.proofs.Math.Nat.{eq-or-lt_of_le}
 use Rattle.std.proofs.lemmas.List.{append-nil}
 use Rattle.std.proofs.lemmas.List.Elements.{All-nil, All-append}
 use Rattle.lw_base.specs.Letters.{Names, Numbered, list_at, FitsRing}
 use Rattle.lw_ring.specs.declared.parcel.Parcel.{Parcel}
-use Rattle.lw_ring.specs.Queue.{above_all_sent, contents, AllFit, Takes, TakenOff}
+use Rattle.lw_latch.specs.RingWord.{above_all_sent}
+use Rattle.lw_ring.specs.Queue.{contents, AllFit, Takes, TakenOff}
 use Rattle.lw_ring.specs.declared.queue.PassView.{PassView}
 use Rattle.lw_ring.specs.Calls.{NamedFrom, InTurn}
 use Rattle.lw_ring.specs.Ends.{ReceiverView}
@@ -48,6 +50,13 @@ pub received : {L F : Type 0} (v w : PassView L F) (more : List L) (senders got 
 received {L} {F} v w more senders got now r is size =
     subst (λ (x : PassView L F). length x.got ≡ now → ReceiverView x senders now) (sym is)
     (λ long. record { not_fresh = r.not_fresh; gets = r.gets; made = r.made; size = long; sends_not = r.sends_not; from = r.from; put = r.put }) size
+
+-- where as many messages are in hand as are wanted, they are handed out
+pub enough_in_hand : {T : Type 0} (batch hand before : List T) (max : ℕ) → batch ++ hand ≡ before → length batch ≤ max → (length batch < max → hand ≡ []) → max ≤ length before → max ≤ length batch
+enough_in_hand {T} batch hand before max is most rest enough = elim (eq-or-lt_of_le most) [
+  | inl same ↦ omega arith
+  | inr less ↦ (let none = ap (λ (l : List T). length (batch ++ l)) (rest less) in let size = ap length is in let nil = ap length (append-nil batch) in omega arith)
+]
 
 -- the letters of a run are numbered on
 each_letter : {T L : Type 0} (letter : T → L) (P : ℕ → L → Type 0) (xs : List T) → ((k : ℕ) (d : T) → k < length xs → P k (letter (get_or xs k d))) → (k : ℕ) (d : L) → k < length xs → P k (get_or (map letter xs) k d)

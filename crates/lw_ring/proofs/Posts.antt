@@ -12,7 +12,8 @@ use Rattle.lw_base.specs.declared.message.Tag.{Tag}
 use Rattle.lw_ring.specs.declared.queue.PassView.{PassView}
 use Rattle.lw_base.specs.Letters.{sent_by, list_at, FitsRing}
 use Rattle.lw_ring.specs.declared.parcel.Parcel.{Parcel}
-use Rattle.lw_ring.specs.Queue.{most_sent, most_senders, above_all_sent, contents, unpacked, fresh, spent, receiver, one_more, the_next, with_sender, with_put, with_got, Facts, FitsView, Posted, Keeps, Delivers, AllFit, Sends, Takes, Saw}
+use Rattle.lw_latch.specs.RingWord.{most_sent, most_senders, above_all_sent}
+use Rattle.lw_ring.specs.Queue.{contents, unpacked, fresh, spent, receiver, one_more, the_next, with_sender, with_put, with_got, Facts, FitsView, Posted, Keeps, Delivers, AllFit, Sends, Takes, Saw}
 use Rattle.lw_ring.proofs.Counts.{choose_yes, choose_no, sent_by-no, sent_by-yes, sent_by-append, sent_by-mine, sent_by-others, senders_below, All-front, All-back, below, below_at_most, below_same, counted}
 
 off : {X : Type 0} → false ≡ true → X
@@ -126,7 +127,7 @@ module _ {T L F : Type 0} (letter : T → L) (tag_of : L → Tag) (fits : ℕ �
       go (suc j) e = absurd (some-ne-none v (sym e))
 
   -- one more sender
-  dealing : (pass : ℕ) (v : V) → v.fresh ≡ false → v.gets ≡ true → v.made < 127 → Forks H pass v (one_more v) (the_next v)
+  dealing : (pass : ℕ) (v : V) → v.fresh ≡ false → v.gets ≡ true → v.made < most_senders → Forks H pass v (one_more v) (the_next v)
   dealing pass v old gets room items views h0 here =
       let h = made items views pass v h0 here old in
       let f = h.facts in

@@ -5,7 +5,8 @@ use Rattle.lw_base.specs.Letters.{Names}
 use Rattle.lw_ring.specs.declared.ends.SendRefusal.{SendRefusal}
 use Rattle.lw_ring.specs.declared.ends.SendRefusal.TheVariants.{Spent, Exited, NoMemory}
 use Rattle.lw_ring.specs.Ends.{Sender, Receiver}
-use Rattle.lw_ring.specs.Queue.{Saw, most_sent}
+use Rattle.lw_latch.specs.RingWord.{most_sent}
+use Rattle.lw_ring.specs.Queue.{Saw}
 
 -- the messages name the sender, and the numbers from this one on
 abbrev pub NamedFrom : {T L : Type 0} → (T → L) → (L → Tag) → ℕ → ℕ → List T → Type 0
@@ -15,7 +16,7 @@ NamedFrom {T} letter tag_of sender first xs = (k : ℕ) (d : T) → k < length x
 abbrev pub AfterRefusal : {X L F : Type 0} → SendRefusal X → X → ℕ → Sender L F → Sender L F → Type 0
 AfterRefusal (Spent x) value count old new = (x ≡ value) × (most_sent < length old.sent + count) × (new ≡ old)
 AfterRefusal (Exited x) value count old new = (x ≡ value) × (length old.sent + count ≤ most_sent) × IsSome old.latch × (new ≡ record old { found = old.found + 1 })
-AfterRefusal (NoMemory x) value count old new = (x ≡ value) × (length old.sent + count ≤ most_sent) × (new ≡ old)
+AfterRefusal (NoMemory x) value count old new = (x ≡ value) × (length old.sent + count ≤ most_sent) × (old.found ≡ 0) × (new ≡ old)
 
 -- what a take gave, and what is in the receiver's hand behind it: what was in hand before, and what then came off the queue
 abbrev pub InTurn : {L : Type 0} → List L → List L → List L → Type 0

@@ -1,11 +1,12 @@
 -- What callers see of the ends of a ring.
-use Rattle.std.specs.Prelude.{◌≡◌, ℕ, ◌+◌, true, false, List, [], length, Option, Some, None}
+use Rattle.std.specs.Prelude.{◌≡◌, ℕ, ◌+◌, true, false, ◌≤◌, List, [], length, vec_capacity, Option, Some, None}
 use Rattle.std.specs.declared.alloc.Global.{Global}
+use Rattle.std.specs.declared.vec.Vec.{Vec}
 use Rattle.atomic_table.specs.Seated.{TableId}
 use Rattle.crossbeam_queue.specs.SegTies.{SegId}
 use Rattle.lw_latch.specs.RingEnds.{RingEnd}
 use Rattle.lw_ring.specs.declared.queue.PassView.{PassView}
-use Rattle.lw_ring.specs.Queue.{most_senders}
+use Rattle.lw_latch.specs.RingWord.{most_senders}
 
 -- a sending end
 pub record Sender (L F : Type 0) : Type 0 where
@@ -99,6 +100,10 @@ pub record ReceiverView {L F : Type 0} (v : PassView L F) (senders got : ℕ) : 
   pub sends_not : v.sends ≡ false
   pub from : v.from ≡ 0
   pub put : v.put ≡ []
+
+-- the vector of a run that was handed out: it is empty and has room
+abbrev pub IsSpare : {T A : Type 0} → Vec T A → Type 0
+IsSpare v = (v.items ≡ []) × (1 ≤ vec_capacity v)
 
 -- the end is the k-th of the receiver's ring
 abbrev pub IsEnd : {L F : Type 0} → Receiver L F → ℕ → Sender L F → Type 0

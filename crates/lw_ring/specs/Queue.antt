@@ -3,21 +3,11 @@ use Rattle.std.specs.Prelude.{◌≡◌, ◌≢◌, ◌⊎◌, ℕ, ◌+◌, ◌
 use mathlib.Core.Option.{some}
 use lib.ListN.{get_elem?}
 use Rattle.lw_base.specs.declared.message.Tag.{Tag}
+use Rattle.lw_latch.specs.RingWord.{most_senders, most_sent, above_all_sent}
 use Rattle.lw_base.specs.Letters.{sent_by, list_at, FitsRing}
 use Rattle.lw_ring.specs.declared.queue.PassView.{PassView}
 use Rattle.lw_ring.specs.declared.parcel.Parcel.{Parcel}
 use Rattle.lw_ring.specs.declared.parcel.Parcel.TheVariants.{One, Run}
-
--- the most that one end sends, and more than all ends of a ring send together
-abbrev pub most_sent : ℕ
-most_sent = 1099511627776
-
-abbrev pub above_all_sent : ℕ
-above_all_sent = 140737488355328
-
--- the most senders of a ring
-abbrev pub most_senders : ℕ
-most_senders = 127
 
 -- the messages of a parcel, and of several, oldest first
 abbrev pub contents : {T : Type 0} → Parcel T → List T

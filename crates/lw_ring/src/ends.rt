@@ -2,7 +2,8 @@
 ghost use Rattle.std.specs.Prelude.{◌≡◌, ◌+◌, ◌<◌, ◌≤◌, true, false, [], ◌∷◌, ◌++◌, length, map, All, IfErr, OnOk};
 ghost use Rattle.crossbeam_queue.specs.SegTies.{IsSegPassOf};
 ghost use Rattle.lw_base.specs.Letters.{Names, Numbered, FitsRing};
-ghost use Rattle.lw_ring.specs.Queue.{contents, most_sent, Sends};
+ghost use Rattle.lw_latch.specs.RingWord.{most_sent};
+ghost use Rattle.lw_ring.specs.Queue.{contents, Sends};
 ghost use Rattle.lw_ring.specs.Calls.{AfterRefusal, NamedFrom};
 
 use crate::gate;
@@ -31,18 +32,18 @@ impl<T: Tagged + Drop> Drop for Shared<T> {
     }
 }
 
-/// Why a message was not sent. It comes back.
+/// Why a message was not sent, or a run of them. It comes back.
 #[derive(Debug, Drop, Error)]
 #[error_bound(T: Debug)]
 pub enum SendRefusal<T> {
-    /// This end has sent 2^40 messages, the most that it can.
-    #[error("the sender has sent as many messages as it can")]
+    /// With it, or with the run, this end would have sent more than 2^40 messages, the most that it can.
+    #[error("the sender would have sent more messages than it can")]
     Spent(T),
     /// The receiver has closed the ring.
     #[error("the receiver has closed the ring")]
     Exited(T),
-    /// There was no memory for it.
-    #[error("there was no memory for the message")]
+    /// There was no memory for it. The ring was not found closed.
+    #[error("there was no memory to send")]
     NoMemory(T),
 }
 
@@ -61,7 +62,7 @@ impl<T: Tagged + Drop> Model for SendEnd<T> {
     ghost use Rattle.std.specs.Arc.{arc_value};
     ghost use Rattle.crossbeam_queue.specs.SegTies.{IsSegPassOf};
     ghost use Rattle.lw_base.specs.Letters.{Numbered};
-    ghost use Rattle.lw_ring.specs.Queue.{most_sent};
+    ghost use Rattle.lw_latch.specs.RingWord.{most_sent};
     ghost use Rattle.lw_ring.specs.Ends.{Sender, latch_id, found_of, Outside, SenderView};
 
     ghost Value = { Sender T.Letter T.Family };
@@ -104,14 +105,15 @@ impl<T: Tagged + Drop> SendEnd<T> {
     /// Sends a message, which stands last in this end's sent list from then on. It takes no memory for itself.
     ///
     /// A refused one comes back, and the sent list stays as it is. It is refused as `Spent` exactly where 2^40 were
-    /// sent, and as `Exited` only where this call's own step found the ring's latch closed. The message names this end
-    /// and the number that comes next, and fits the ring.
+    /// sent, and as `Exited` only where this call's own step found the ring's latch closed. After an `Exited` this end
+    /// sends nothing more. The message names this end and the number that comes next, and fits the ring.
     pub fn send<R: Wait>(&mut self, rt: &R, value: T) -> Result<(), SendRefusal<T>>
         requires names { Names (T.tag_of (T.letter value)) self.old.sender (length self.old.sent) }
         requires fits { FitsRing T.fits self.old.number self.old.family value }
         ensures same { self.new ≡ record self.old { sent = self.new.sent; found = self.new.found } }
         ensures ok { OnOk result (self.new ≡ record self.old { sent = self.old.sent ++ T.letter value ∷ [] }) }
         ensures room { OnOk result (length self.old.sent < most_sent) }
+        ensures not_exited { OnOk result (self.old.found ≡ 0) }
         ensures refused { IfErr result (λ r. AfterRefusal r value 1 self.old self.new) }
     {
         if self.sent == MOST_SENT {
@@ -147,6 +149,7 @@ impl<T: Tagged + Drop> SendEnd<T> {
         ensures same { self.new ≡ record self.old { sent = self.new.sent; found = self.new.found } }
         ensures ok { OnOk result (self.new ≡ record self.old { sent = self.old.sent ++ map T.letter run.items }) }
         ensures room { OnOk result (length self.old.sent + length run.items ≤ most_sent) }
+        ensures not_exited { OnOk result (self.old.found ≡ 0) }
         ensures refused { IfErr result (λ r. AfterRefusal r run (length run.items) self.old self.new) }
     {
         let count = run.len() as u64;

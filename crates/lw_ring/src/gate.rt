@@ -1,6 +1,6 @@
 //! A ring's latch, where it has one. Where it has none, everybody is let in and nothing is counted.
-ghost use Rattle.std.specs.Prelude.{◌≡◌, ℕ, ◌+◌, ◌<◌, ◌≤◌, ◌≢◌, ◌*◌, ◌^◌, IsSome};
-ghost use Rattle.lw_ring.specs.Queue.{most_sent, above_all_sent};
+ghost use Rattle.std.specs.Prelude.{◌≡◌, ℕ, ◌+◌, ◌<◌, ◌≤◌, ◌≢◌, ◌*◌, IsSome};
+ghost use Rattle.lw_latch.specs.RingWord.{most_sent, above_all_sent, finished_unit};
 ghost use Rattle.lw_ring.specs.Ends.{latch_id, found_of, closed_of, tries_of, seen_of, Outside, Inside, Receiving};
 
 use lw_latch::{Closing, Enter, LatchRecv, LatchSend};
@@ -10,7 +10,9 @@ pub fn enter(latch: &mut Option<LatchSend>) -> Enter
     requires { (n : ℕ) × Outside latch.old n }
     ensures same { latch_id latch.new ≡ latch_id latch.old }
     ensures inside { result ≡ Enter.Inside →
-        ((n : ℕ) → Outside latch.old n → Inside latch.new n) × (found_of latch.new ≡ found_of latch.old) }
+        ((n : ℕ) → Outside latch.old n → Inside latch.new n)
+        × (found_of latch.new ≡ 0)
+        × (found_of latch.old ≡ 0) }
     ensures closed { result ≡ Enter.Closed →
         ((n : ℕ) → Outside latch.old n → Outside latch.new n)
         × (found_of latch.new ≡ found_of latch.old + 1)
@@ -60,7 +62,7 @@ pub fn close(latch: &mut Option<LatchRecv>, taken: u64) -> Closing
         (closed_of latch.new ≡ 0)
         × (tries_of latch.new ≡ tries_of latch.old + 1)
         × (seen_of latch.new ≡ seen)
-        × (seen ≢ taken * 2 ^ 17) }
+        × (seen ≢ taken * finished_unit) }
 {
     match latch {
         Some(latch) => latch.close(taken),

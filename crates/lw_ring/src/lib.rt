@@ -1,8 +1,8 @@
 //! A message ring: many senders, one receiver, and a latch by which the receiver closes it.
 //!
 //! Messages stand in one queue that all ends share, singly or in runs of one sender. Its rule: between any two steps, of
-//! each sender, what came off the queue and then what waits there is what it sent. A ring with a latch can be closed, and then holds nothing and takes nothing more. A
-//! ring without one, `open_ring`, is never closed.
+//! each sender, what came off the queue and then what waits there is what it sent. A ring with a latch can be closed, and
+//! then holds nothing and takes nothing more. A ring without one, `open_ring`, is never closed.
 #![tactic(auto)]
 
 mod ends;

@@ -2,7 +2,8 @@
 ghost use Rattle.std.specs.Prelude.{◌≡◌, ℕ, ◌<◌, ◌≤◌, [], ◌∷◌, ◌++◌, length, slice_index_or, Some, None, IfOk};
 ghost use Rattle.std.specs.Arc.{arc_value};
 ghost use Rattle.crossbeam_queue.specs.SegTies.{IsSegPassOf};
-ghost use Rattle.lw_ring.specs.Queue.{most_senders, receiver, one_more};
+ghost use Rattle.lw_latch.specs.RingWord.{most_senders};
+ghost use Rattle.lw_ring.specs.Queue.{receiver, one_more};
 ghost use Rattle.lw_ring.specs.Ends.{latch_id, found_of, Outside, ReceiverView, new_sender, new_receiver};
 
 use crate::ends::{SendEnd, Shared};

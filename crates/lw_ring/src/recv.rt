@@ -1,8 +1,10 @@
 //! The receiving end of a ring.
-ghost use Rattle.std.specs.Prelude.{◌≡◌, ◌≢◌, ℕ, ◌+◌, ◌*◌, ◌^◌, ◌<◌, ◌≤◌, true, false, [], ◌++◌, length, map, reverse, IfSome, All, IsSome, MatchOption, vec_capacity};
+ghost use Rattle.std.specs.Prelude.{◌≡◌, ◌≢◌, ℕ, ◌+◌, ◌*◌, ◌<◌, ◌≤◌, true, false, [], ◌++◌, length, map, reverse, IfSome, All, IsSome, MatchOption, vec_capacity};
 ghost use Rattle.crossbeam_queue.specs.SegTies.{IsSegPassOf};
-ghost use Rattle.lw_ring.specs.Queue.{above_all_sent, contents, AllFit, Takes, TakenOff, Saw};
+ghost use Rattle.lw_latch.specs.RingWord.{above_all_sent, finished_unit};
+ghost use Rattle.lw_ring.specs.Queue.{contents, AllFit, Takes, TakenOff, Saw};
 ghost use Rattle.lw_ring.specs.Calls.{EmptyAt, InTurn};
+ghost use Rattle.lw_ring.specs.Ends.{IsSpare};
 
 use crate::ends::Shared;
 use crate::gate;
@@ -35,8 +37,9 @@ impl<T: Tagged + Drop> Model for RecvEnd<T> {
     ghost use Rattle.std.specs.Arc.{arc_value};
     ghost use Rattle.crossbeam_queue.specs.SegTies.{IsSegPassOf};
     ghost use Rattle.lw_base.specs.Letters.{total_length};
-    ghost use Rattle.lw_ring.specs.Queue.{above_all_sent, AllFit};
-    ghost use Rattle.lw_ring.specs.Ends.{Receiver, latch_id, found_of, closed_of, tries_of, seen_of, Receiving, ReceiverView};
+    ghost use Rattle.lw_latch.specs.RingWord.{above_all_sent};
+    ghost use Rattle.lw_ring.specs.Queue.{AllFit};
+    ghost use Rattle.lw_ring.specs.Ends.{Receiver, latch_id, found_of, closed_of, tries_of, seen_of, Receiving, ReceiverView, IsSpare};
 
     ghost Value = { Receiver T.Letter T.Family };
 
@@ -65,7 +68,7 @@ impl<T: Tagged + Drop> Model for RecvEnd<T> {
         × (drop e.taken e.pass.me.view.client.got ≡ map T.letter (reverse e.hand.items))
         × AllFit T.letter T.tag_of T.fits e.pass.me.view.client.number e.pass.me.view.client.family
         e.senders (reverse e.hand.items)
-        × All (λ v. v.items ≡ []) e.spares.items };
+        × All IsSpare e.spares.items };
 }
 
 // The oldest parcel that waits.
@@ -89,7 +92,8 @@ pub(crate) fn pop<T: Tagged + Drop, R: Wait>(
 fn hand_out<T: Tagged + Drop>(hand: &mut Vec<T>, batch: &mut Vec<T>, max: usize)
     requires room { (length batch.old.items ≤ max) × (max ≤ vec_capacity batch.old) }
     ensures items { batch.new.items ++ reverse hand.new.items ≡ batch.old.items ++ reverse hand.old.items }
-    ensures room { (length batch.new.items ≤ max) × (max ≤ vec_capacity batch.new) }
+    ensures count { length batch.new.items ≤ max }
+    ensures room { vec_capacity batch.old ≤ vec_capacity batch.new }
     ensures all { length batch.new.items < max → hand.new.items ≡ [] }
 {
     for _ in batch.len()..max {
@@ -106,8 +110,8 @@ fn hand_out<T: Tagged + Drop>(hand: &mut Vec<T>, batch: &mut Vec<T>, max: usize)
 
 // Keeps an emptied vector, where there is room.
 fn keep<T: Tagged + Drop>(spares: &mut Vec<Vec<T>>, emptied: Vec<T>)
-    requires { All (λ v. v.items ≡ []) spares.old.items × (emptied.items ≡ []) }
-    ensures { All (λ v. v.items ≡ []) spares.new.items }
+    requires { All IsSpare spares.old.items × (emptied.items ≡ []) }
+    ensures { All IsSpare spares.new.items }
 {
     if emptied.capacity() > 0 && spares.len() < spares.capacity() {
         if spares.push(emptied).is_err() {
@@ -126,11 +130,12 @@ fn unpack<T: Tagged + Drop>(
 )
     requires room { (length batch.old.items < max) × (max ≤ vec_capacity batch.old) }
     requires hand { hand.old.items ≡ [] }
-    requires spares { All (λ v. v.items ≡ []) spares.old.items }
+    requires spares { All IsSpare spares.old.items }
     ensures items { batch.new.items ++ reverse hand.new.items ≡ batch.old.items ++ contents parcel }
-    ensures room { (length batch.new.items ≤ max) × (max ≤ vec_capacity batch.new) }
+    ensures count { length batch.new.items ≤ max }
+    ensures room { vec_capacity batch.old ≤ vec_capacity batch.new }
     ensures all { length batch.new.items < max → hand.new.items ≡ [] }
-    ensures spares { All (λ v. v.items ≡ []) spares.new.items }
+    ensures spares { All IsSpare spares.new.items }
 {
     match parcel {
         Parcel::One(value) => {
@@ -152,11 +157,12 @@ fn unpack_run<T: Tagged + Drop>(
 )
     requires room { (length batch.old.items < max) × (max ≤ vec_capacity batch.old) }
     requires hand { hand.old.items ≡ [] }
-    requires spares { All (λ v. v.items ≡ []) spares.old.items }
+    requires spares { All IsSpare spares.old.items }
     ensures items { batch.new.items ++ reverse hand.new.items ≡ batch.old.items ++ run.items }
-    ensures room { (length batch.new.items ≤ max) × (max ≤ vec_capacity batch.new) }
+    ensures count { length batch.new.items ≤ max }
+    ensures room { vec_capacity batch.old ≤ vec_capacity batch.new }
     ensures all { length batch.new.items < max → hand.new.items ≡ [] }
-    ensures spares { All (λ v. v.items ≡ []) spares.new.items }
+    ensures spares { All IsSpare spares.new.items }
 {
     if run.len() <= max - batch.len() {
         if batch.append(&mut run).is_err() {
@@ -186,13 +192,16 @@ fn fill<T: Tagged + Drop, R: Wait>(
         × (length pass.old.me.view.client.got < above_all_sent) }
     requires room { (length batch.old.items ≤ max) × (max ≤ vec_capacity batch.old) }
     requires hand { length batch.old.items < max → hand.old.items ≡ [] }
-    requires spares { All (λ v. v.items ≡ []) spares.old.items }
+    requires spares { All IsSpare spares.old.items }
     ensures queue { IsSegPassOf queue.now pass.new }
+    ensures full { max ≤ length batch.old.items →
+        (batch.new.items ≡ batch.old.items) × (hand.new.items ≡ hand.old.items) }
     ensures off { TakenOff T.letter T.tag_of T.fits pass.old.me.view.client pass.new.me.view.client
         (batch.old.items ++ reverse hand.old.items) (batch.new.items ++ reverse hand.new.items) }
-    ensures room { (length batch.new.items ≤ max) × (max ≤ vec_capacity batch.new) }
+    ensures count { length batch.new.items ≤ max }
+    ensures room { vec_capacity batch.old ≤ vec_capacity batch.new }
     ensures hand { length batch.new.items < max → hand.new.items ≡ [] }
-    ensures spares { All (λ v. v.items ≡ []) spares.new.items }
+    ensures spares { All IsSpare spares.new.items }
     ensures empty { length batch.new.items < max →
         Saw T.letter T.tag_of T.fits pass.new.me.view.client [] }
 {
@@ -219,9 +228,12 @@ impl<T: Tagged + Drop> RecvEnd<T> {
 
     /// Takes up to `max` messages, oldest first, into an empty vector that has the room. It takes no memory.
     ///
-    /// What is in hand of a run comes first. Then parcels come off the queue one by one, and what goes past `max` stays in
-    /// hand. There are fewer than `max` only where nothing is in hand and the queue was found empty, by loads alone. Each
-    /// message fits the ring, and its tag names one of the ring's senders.
+    /// What is in hand of a run comes first; where that is enough, the queue is left alone. Then parcels come off the queue
+    /// one by one, and what goes past `max` stays in hand. There are fewer than `max` only where nothing is in hand and the
+    /// queue was found empty, by loads alone. Each message fits the ring, and its tag names one of the ring's senders.
+    ///
+    /// That a waiting message is taken is shown by tests alone: a look at an empty queue leaves no mark that a clause could
+    /// name.
     pub fn take_into<R: Wait>(&mut self, rt: &R, max: usize, batch: &mut Vec<T>)
         requires room { (batch.old.items ≡ []) × (max ≤ vec_capacity batch.old) }
         requires not_closed { self.old.closed ≡ 0 }
@@ -234,7 +246,9 @@ impl<T: Tagged + Drop> RecvEnd<T> {
         ensures count { length batch.new.items ≤ max }
         ensures fewer { length batch.new.items < max →
             (self.new.hand ≡ []) × EmptyAt T.letter T.tag_of T.fits self.new }
-        ensures room { max ≤ vec_capacity batch.new }
+        ensures in_hand { max ≤ length self.old.hand →
+            self.old.hand ≡ map T.letter batch.new.items ++ self.new.hand }
+        ensures room { vec_capacity batch.old ≤ vec_capacity batch.new }
     {
         hand_out(&mut self.hand, batch, max);
         fill(
@@ -253,15 +267,15 @@ impl<T: Tagged + Drop> RecvEnd<T> {
     /// where requests and replies go in runs of like length, no memory is taken once they are going.
     pub fn spare(&mut self) -> Option<Vec<T>>
         ensures same { self.new ≡ self.old }
-        ensures empty { IfSome result (λ v. v.items ≡ []) }
+        ensures spare { IfSome result IsSpare }
     {
         self.spares.pop()
     }
 
     /// Closes the ring, if every message that was sent was taken and no sender is inside a send.
     ///
-    /// `NotYet` has the latch's word, which is another than 2^17 times what was taken. Where a message is still in hand,
-    /// the word is another.
+    /// `NotYet` has the latch's word, which is another than 2^17 times what was taken. Where a message is still in hand, the
+    /// word is another too: that is shown by a test.
     pub fn close(&mut self) -> Closing
         requires { IsSome self.old.latch × (self.old.closed ≡ 0) }
         ensures same { self.new ≡ record self.old {
@@ -275,7 +289,7 @@ impl<T: Tagged + Drop> RecvEnd<T> {
             (self.new.closed ≡ 0)
             × (self.new.tries ≡ self.old.tries + 1)
             × (self.new.seen ≡ seen)
-            × (seen ≢ length self.old.taken * 2 ^ 17) }
+            × (seen ≢ length self.old.taken * finished_unit) }
     {
         gate::close(&mut self.latch, self.taken)
     }

@@ -1,8 +1,10 @@
 //! What is known of a ring once all its ends are in one hand.
-ghost use Rattle.std.specs.Prelude.{◌≡◌, ℕ, ◌+◌, ◌^◌, ◌<◌, ◌≤◌, true, false, [], ◌∷◌, ◌++◌, length, map, slice_index_or, All, IfOk, OnOk};
+ghost use Rattle.std.specs.Prelude.{◌≡◌, ℕ, ◌+◌, ◌<◌, ◌≤◌, true, false, [], ◌∷◌, ◌++◌, length, map, slice_index_or, All, IfOk, OnOk};
 ghost use Rattle.crossbeam_queue.specs.SegTies.{IsSegPassOf};
 ghost use Rattle.lw_base.specs.Letters.{sent_by, list_at, Numbered};
-ghost use Rattle.lw_ring.specs.Queue.{above_all_sent, contents, AllFit, TakenOff, Saw};
+ghost use Rattle.lw_latch.specs.RingWord.{above_all_sent};
+ghost use Rattle.lw_ring.specs.Queue.{contents, AllFit, TakenOff, Saw};
+ghost use Rattle.lw_ring.specs.Calls.{InTurn};
 ghost use Rattle.lw_ring.specs.Ends.{IsEnd};
 ghost use Rattle.lw_ring.specs.Settling.{AreAllEnds, all_sent, all_found, whole};
 
@@ -36,8 +38,9 @@ pub struct Settled<T: Tagged + Drop> {
 /// Settles a ring: takes what is left, and counts what each sender sent and how much of it had been taken.
 ///
 /// What is left was in the receiver's hand, and then in the queue. Of each sender, what had been taken and then its part of
-/// what is left is what it sent, numbered from 0. Of a closed ring nothing is left, and where a sender was refused as
-/// `Exited` the ring is closed. The ends are all of the ring's, in order. Without memory they are dropped.
+/// what is left is what it sent, numbered from 0. Of a closed ring nothing is in hand and nothing is left, and where a
+/// sender was refused as `Exited` the ring is closed. The ends are all of the ring's, in order. Without memory they are
+/// dropped.
 pub fn settle<T: Tagged + Drop, R: Wait>(
     rt: &R,
     alloc: Global,
@@ -64,7 +67,8 @@ pub fn settle<T: Tagged + Drop, R: Wait>(
         }) }
     ensures fits { IfOk result (λ s.
         AllFit T.letter T.tag_of T.fits recv.number recv.family recv.senders s.left.items) }
-    ensures closed { IfOk result (λ s. recv.closed ≡ 1 → s.left.items ≡ []) }
+    ensures order { IfOk result (λ s. InTurn recv.hand (map T.letter s.left.items) []) }
+    ensures closed { IfOk result (λ s. recv.closed ≡ 1 → (recv.hand ≡ []) × (s.left.items ≡ [])) }
     ensures exited { IfOk result (λ _. 1 ≤ all_found ends.items → recv.closed ≡ 1) }
 {
     let (recv, mut counts) = gather(alloc, recv, ends)?;
@@ -132,7 +136,8 @@ fn empty<T: Tagged + Drop, R: Wait>(
         sent_by T.tag_of p (recv.taken ++ map T.letter r.1.items) ≡ list_at recv.known p) }
     ensures fits { IfOk result (λ r.
         AllFit T.letter T.tag_of T.fits recv.number recv.family recv.senders r.1.items) }
-    ensures closed { IfOk result (λ r. recv.closed ≡ 1 → r.1.items ≡ []) }
+    ensures order { IfOk result (λ r. InTurn recv.hand (map T.letter r.1.items) []) }
+    ensures closed { IfOk result (λ r. recv.closed ≡ 1 → (recv.hand ≡ []) × (r.1.items ≡ [])) }
     ensures found { 1 ≤ recv.found → recv.closed ≡ 1 }
 {
     let RecvEnd {

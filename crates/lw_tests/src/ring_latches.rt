@@ -65,3 +65,14 @@ fn with_all_senders_taken_in_the_word_is_known(rt: HostRuntime) -> Result<(), Fa
     assert!(rt; recv.learn() == 131_072);
     Ok(())
 }
+
+#[test]
+fn several_messages_are_finished_in_one_step(rt: HostRuntime) -> Result<(), Fail> {
+    let (mut recv, mut end) = one(rt.alloc())?;
+    if end.enter() == Enter::Inside {
+        end.finish(5);
+    }
+    assert!(rt; recv.close(1) == Closing::NotYet { seen: 655_360 });
+    assert!(rt; recv.close(5) == Closing::Closed);
+    Ok(())
+}

@@ -1,10 +1,14 @@
 //! Message rings.
-ghost use Rattle.std.specs.Prelude.{◌≡◌, ◌+◌, ◌≤◌, ◌^◌, [], ◌∷◌, Some, IfOk, IsSome, All, length};
+ghost use Rattle.std.specs.Prelude.{◌≡◌, ◌+◌, ◌≤◌, [], ◌∷◌, Some, IfOk, IsSome, All, length};
+ghost use Rattle.lw_latch.specs.RingWord.{most_sent};
 ghost use Rattle.lw_ring.specs.Calls.{NamedFrom};
 ghost use Rattle.lw_ring.specs.Ends.{IsEnd};
 
-use lw_base::{NoMemory, Tag, Tagged, What};
-use lw_ring::{Closing, Pair, RecvEnd, SendEnd, SendRefusal, Settled, open_ring, ring, settle};
+use lw_base::{Naming, NoMemory, Tag, Tagged, What};
+use lw_ring::{
+    Closing, Pair, RecvEnd, SendEnd, SendRefusal, Settled, open_ring, open_ring_as, ring, ring_as,
+    settle,
+};
 use std::alloc::Global;
 use std::sync::Wait;
 use std::test::Fail;
@@ -65,7 +69,7 @@ fn put<R: Wait>(rt: &R, end: &mut SendEnd<Note>, value: u8) -> Result<(), SendRe
 
 // So many notes of a sender, numbered from `first` on, with the values 1, 2, ..
 fn notes(alloc: Global, sender: u32, first: u64, count: u8) -> Result<Vec<Note>, NoMemory>
-    requires { first ≤ 2 ^ 40 }
+    requires { first ≤ most_sent }
     ensures count { IfOk result (λ v. length v.items ≡ count) }
     ensures names { IfOk result (λ v. NamedFrom (λ n. n) (λ n. n.tag) sender first v.items) }
 {
@@ -426,5 +430,60 @@ fn ends_of_any_message_go_to_another_machine_thread(rt: HostRuntime) -> Result<(
     let (recv, end) = ring_of_one(rt.alloc())?;
     let (recv, end) = there_and_back(&rt, recv, end);
     assert!(rt; recv.taken() == 0 && end.sent() == 0);
+    Ok(())
+}
+
+// A ring of any message with one sender, by a caller that leaves its family to the type `B`.
+fn ring_named_by<T: Tagged + Drop, B: Naming<T::Family>>(
+    alloc: Global,
+) -> Result<(RecvEnd<T>, SendEnd<T>), NoMemory>
+    requires { 0 ≡ B.number }
+    ensures recv { IfOk result (λ r. (r.0.closed ≡ 0) × (r.0.family ≡ B.family) × IsSome r.0.latch) }
+    ensures end { IfOk result (λ r. r.1.family ≡ B.family) }
+{
+    let (recv, mut ends) = ring_as::<T, B>(alloc, 1, 0)?;
+    let end = ends.pop().unwrap();
+    Ok((recv, end))
+}
+
+// The same without a latch.
+fn open_ring_named_by<T: Tagged + Drop, B: Naming<T::Family>>(
+    alloc: Global,
+) -> Result<(RecvEnd<T>, SendEnd<T>), NoMemory>
+    requires { 0 ≡ B.number }
+    ensures recv { IfOk result (λ r. (r.0.closed ≡ 0) × (r.0.family ≡ B.family)) }
+    ensures end { IfOk result (λ r. r.1.family ≡ B.family) }
+{
+    let (recv, mut ends) = open_ring_as::<T, B>(alloc, 1, 0)?;
+    let end = ends.pop().unwrap();
+    Ok((recv, end))
+}
+
+// The receiver of notes has number 0.
+struct Notes;
+
+impl Naming<()> for Notes {
+    ghost use Rattle.std.specs.Prelude.{Some};
+
+    ghost number = { 0 };
+
+    ghost family = { Some tt };
+}
+
+#[test]
+fn a_type_of_the_caller_names_a_ring(rt: HostRuntime) -> Result<(), Fail> {
+    let (mut recv, mut end) = ring_named_by::<Note, Notes>(rt.alloc())?;
+    assert!(rt; put(&rt, &mut end, 7).is_ok());
+    let got = take(&rt, rt.alloc(), &mut recv, 8)?;
+    assert!(rt; have(&got, &[7]) && recv.close() == Closing::Closed);
+    Ok(())
+}
+
+#[test]
+fn a_type_of_the_caller_names_an_open_ring(rt: HostRuntime) -> Result<(), Fail> {
+    let (mut recv, mut end) = open_ring_named_by::<Note, Notes>(rt.alloc())?;
+    assert!(rt; put(&rt, &mut end, 7).is_ok());
+    let got = take(&rt, rt.alloc(), &mut recv, 8)?;
+    assert!(rt; have(&got, &[7]));
     Ok(())
 }

@@ -1,7 +1,8 @@
 //! Messages per second.
 ghost use Rattle.std.specs.Prelude.{◌≤◌};
+ghost use Rattle.lw_latch.specs.RingWord.{most_senders};
 
-use crate::ringed::Way;
+use crate::ringed::{BATCH, Way};
 use crate::{plain, ringed};
 use anyhow::Result;
 use std::alloc::{AllocError, Global};
@@ -42,7 +43,7 @@ pub fn on_one_thread<R: Wait + Clock>(
     batch: usize,
     way: Way,
 ) -> Result<Rates>
-    requires { (1 ≤ batch) × (batch ≤ 8) }
+    requires { (1 ≤ batch) × (batch ≤ BATCH) }
 {
     let rounds = messages / batch as u64;
     let mut best = Rates { ring: 0, queue: 0 };
@@ -66,7 +67,7 @@ pub fn among_threads<R: Threads + Wait + Sync + Clock>(
     senders: u32,
     way: Way,
 ) -> Result<Rates>
-    requires { (1 ≤ senders) × (senders ≤ 127) }
+    requires { (1 ≤ senders) × (senders ≤ most_senders) }
 {
     let each = messages / u64::from(senders);
     let mut best = Rates { ring: 0, queue: 0 };

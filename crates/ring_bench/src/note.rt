@@ -1,10 +1,14 @@
 //! The message of the runs.
-ghost use Rattle.std.specs.Prelude.{◌≡◌, ◌+◌, ◌≤◌, ◌^◌, [], Some, IfOk, OnOk, length};
+ghost use Rattle.std.specs.Prelude.{◌≡◌, ◌+◌, ◌≤◌, [], Some, IfOk, OnOk, length};
+ghost use Rattle.lw_latch.specs.RingWord.{most_sent};
 ghost use Rattle.ring_bench.specs.Notes.{AreNotes};
 
 use lw_base::{NoMemory, Tag, Tagged, What};
 use lw_ring::{SendEnd, SendRefusal};
 use std::sync::Wait;
+
+/// How many notes a run has at most.
+const LONGEST_RUN: u64 = 1_048_576;
 
 /// A tag, and something to carry.
 #[derive(Clone, Copy, PartialEq, Eq, Debug)]
@@ -75,7 +79,7 @@ pub fn put_run<R: Wait>(
     mut run: Vec<Note>,
     count: u64,
 ) -> Result<Option<SendRefusal<Vec<Note>>>, NoMemory>
-    requires count { (1 ≤ count) × (count ≤ 2 ^ 20) }
+    requires count { (1 ≤ count) × (count ≤ LONGEST_RUN) }
     requires run { run.items ≡ [] }
     requires family { end.old.family ≡ Some tt }
     ensures end { end.new.family ≡ end.old.family }
@@ -86,7 +90,7 @@ pub fn put_run<R: Wait>(
 
 // The next notes of a sender.
 fn fill_run(run: &mut Vec<Note>, sender: u32, first: u64, count: u64) -> Result<(), NoMemory>
-    requires count { (count ≤ 2 ^ 20) × (first ≤ 2 ^ 40) }
+    requires count { (count ≤ LONGEST_RUN) × (first ≤ most_sent) }
     requires run { run.old.items ≡ [] }
     ensures count { OnOk result (length run.new.items ≡ count) }
     ensures notes { OnOk result (AreNotes sender first run.new.items) }

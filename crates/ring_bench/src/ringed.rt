@@ -1,5 +1,6 @@
 //! Messages over a ring.
 ghost use Rattle.std.specs.Prelude.{◌≡◌, ◌<◌, ◌≤◌, [], Some, IfOk, OnOk, All, length, vec_capacity};
+ghost use Rattle.lw_latch.specs.RingWord.{most_senders};
 ghost use Rattle.lw_ring.specs.Calls.{NamedFrom};
 
 use crate::note::{Note, put, put_run};
@@ -19,10 +20,10 @@ pub enum Way {
 }
 
 /// How many messages a receiver takes at most.
-const BATCH: usize = 8;
+pub const BATCH: usize = 8;
 
 fn ring_of(alloc: Global, senders: u32) -> Result<(RecvEnd<Note>, Vec<SendEnd<Note>>), NoMemory>
-    requires { (1 ≤ senders) × (senders ≤ 127) }
+    requires { (1 ≤ senders) × (senders ≤ most_senders) }
     ensures recv { IfOk result (λ r. r.0.closed ≡ 0) }
     ensures ends { IfOk result (λ r. All (λ e. e.family ≡ Some tt) r.1.items) }
 {
@@ -37,7 +38,7 @@ pub fn on_one_thread<R: Wait>(
     batch: usize,
     way: Way,
 ) -> Result<u64, NoMemory>
-    requires { (1 ≤ batch) × (batch ≤ 8) }
+    requires { (1 ≤ batch) × (batch ≤ BATCH) }
 {
     let (recv, mut ends) = ring_of(alloc, 1)?;
     match (ends.pop(), way) {
@@ -76,7 +77,7 @@ fn runs_in_turn<R: Wait>(
     rounds: u64,
     batch: usize,
 ) -> Result<u64, NoMemory>
-    requires batch { (1 ≤ batch) × (batch ≤ 8) }
+    requires batch { (1 ≤ batch) × (batch ≤ BATCH) }
     requires recv { recv.closed ≡ 0 }
     requires end { end.family ≡ Some tt }
 {
@@ -128,7 +129,7 @@ pub fn among_threads<R: Threads + Wait + Sync>(
     each: u64,
     way: Way,
 ) -> Result<u64, NoMemory>
-    requires { (1 ≤ senders) × (senders ≤ 127) }
+    requires { (1 ≤ senders) × (senders ≤ most_senders) }
 {
     let (recv, ends) = ring_of(alloc, senders)?;
     let runs = each / BATCH as u64;

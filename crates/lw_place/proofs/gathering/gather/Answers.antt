@@ -1,11 +1,12 @@
-use Rattle.std.proofs.Common.{◌≡◌, ◌≤◌, ◌<◌, ◌+◌, List, length, map, ap, sym, subst, ◌∙◌, arith}
+use Rattle.std.proofs.Common.{◌≡◌, ◌≤◌, List, length, map, ap, sym, subst, ◌∙◌, arith}
 use Rattle.std.specs.Prelude.{slice_index_or}
+use Rattle.std.proofs.lemmas.List.{length-map}
 use Rattle.lw_place.specs.PlaceTable.{times, StandsAt}
 use Rattle.lw_place.specs.declared.place.Place.TheVariants as place
 use Rattle.lw_place.specs.declared.place.Place.{Place}
 use Rattle.lw_place.specs.declared.table.Stand.{Stand}
 use Rattle.lw_place.specs.PlaceSeats.{BundleEnd, places_of, stand}
-use Rattle.lw_place.proofs.Gathers.{same_places, gathers, all_stand, all_seats, times_among, ends_there}
+use Rattle.lw_place.proofs.Gathers.{same_places, gathers, all_stand, times_among, ends_there}
 use Rattle.lw_place.proofs.gathering.gather.Goals as goal
 
 pub join_threads-whole-requires : goal.join_threads-whole-requires
@@ -58,7 +59,11 @@ returns-clause-seats c =
     let w = c.join_threads-whole.result in
     let g = gathers c.args.threads.items c.args.desks.items c.join_desks.result w c.requires c.join_desks.ensures.of c.join_desks.ensures.holds c.join_threads-whole.ensures in
     let d = c.done-done.ensures in
-    all_seats c.args.threads.items c.args.desks.items w c.requires g (all_stand c.args.threads.items c.args.desks.items w c.done-done.result c.requires g d.all d.seen d.few)
+    let all = all_stand c.args.threads.items c.args.desks.items w c.done-done.result c.requires g d.all d.seen d.few in
+    let now = ap (λ (e : BundleEnd). e.view.threads) (c.halted-halted.ensures.same ∙ d.same) in
+    let stands = ap length g.stands ∙ length-map c.args.threads.items stand in
+    let n = c.in_ok-places.ensures.count in
+    omega arith
 
 pub returns-clause-once : goal.returns-clause-once
 returns-clause-once c = λ t l.

@@ -1,4 +1,4 @@
-use Rattle.std.proofs.Common.{rules, ◌≡◌, List, [], ◌++◌, reverse, sym, ap, ◌∙◌}
+use Rattle.std.proofs.Common.{rules, ◌≡◌, List, [], ◌++◌, length, reverse, sym, ap, ◌∙◌, arith}
 use Rattle.std.proofs.lemmas.List.{append-nil}
 use Rattle.lw_ring.specs.Queue.{contents}
 use Rattle.lw_ring.proofs.Handing.{one_off}
@@ -15,8 +15,9 @@ loop-preserved g c =
     ap (λ l. l ++ contents parcel) (sym (append-nil batch) ∙ ap (λ (l : List g.row.T.Denot). batch ++ reverse l) (sym none)) in (
       search rules,
       one_off g.T.Tagged.letter g.T.Tagged.tag_of g.T.Tagged.fits _ _ _ parcel _ _ _ i.1 c.in-Some-pop.ensures.told (u.items ∙ was),
-      u.room.0,
-      u.room.1,
+      u.count,
+      search rules,
       u.all,
       u.spares,
+      (λ full. absurd (let same = ap length (i.6 full).0 in let more = c.if-len-max.false in omega arith)),
     )

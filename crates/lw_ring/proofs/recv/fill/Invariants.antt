@@ -1,6 +1,7 @@
 use Rattle.std.proofs.Common.{◌≡◌, ◌++◌, ◌<◌, ◌≤◌, [], length, reverse, vec_capacity, All}
 use Rattle.crossbeam_queue.specs.SegTies.{IsSegPassOf}
 use Rattle.lw_ring.specs.Queue.{TakenOff}
+use Rattle.lw_ring.specs.Ends.{IsSpare}
 use Rattle.lw_ring.proofs.recv.fill.Given as goal
 
 abbrev pub invariant-loop : goal.invariant-loop
@@ -8,6 +9,7 @@ invariant-loop g l =
     IsSegPassOf l.queue l.pass
     × TakenOff g.T.Tagged.letter g.T.Tagged.tag_of g.T.Tagged.fits l.initial.pass.me.view.client l.pass.me.view.client (l.initial.batch.items ++ reverse l.initial.hand.items) (l.batch.items ++ reverse l.hand.items)
     × (length l.batch.items ≤ l.initial.max)
-    × (l.initial.max ≤ vec_capacity l.batch)
+    × (vec_capacity l.initial.batch ≤ vec_capacity l.batch)
     × (length l.batch.items < l.initial.max → l.hand.items ≡ [])
-    × All (λ v. v.items ≡ []) l.spares.items
+    × All IsSpare l.spares.items
+    × (l.initial.max ≤ length l.initial.batch.items → (l.batch.items ≡ l.initial.batch.items) × (l.hand.items ≡ l.initial.hand.items))

@@ -5,4 +5,4 @@ abbrev pub invariant-loop : goal.invariant-loop
 invariant-loop g l =
     (l.batch.items ++ reverse l.hand.items ≡ l.initial.batch.items ++ reverse l.initial.hand.items)
     × (length l.batch.items ≡ l.counter)
-    × (l.initial.max ≤ vec_capacity l.batch)
+    × (vec_capacity l.initial.batch ≤ vec_capacity l.batch)

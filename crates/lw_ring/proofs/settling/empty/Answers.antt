@@ -1,5 +1,5 @@
 use Rattle.std.proofs.Common.{rules, ◌≡◌, ℕ, ◌+◌, ◌-◌, ◌++◌, List, [], length, map, reverse, take, drop, refl, ◌∙◌, ap, sym, subst, arith, length-append, ◌≤◌}
-use Rattle.std.proofs.lemmas.List.{append-nil}
+use Rattle.std.proofs.lemmas.List.{append-nil, length-map}
 use Rattle.lw_ring.specs.declared.queue.PassView.{PassView}
 use Rattle.lw_base.specs.Letters.{total_length, sent_by, list_at}
 use Rattle.lw_ring.specs.Ends.{Receiver, ReceiverView, Receiving, latch_id, closed_of, tries_of, seen_of, found_of}
@@ -147,6 +147,31 @@ returns-clause-fits g c =
     let sum : n + length left ≡ total_length v.known = (let s = end.1 in let t = out.size in let u = ap (λ (y : V). length y.got) off.view in omega arith) in
     subst (λ (x : R). AllFit letter g.T.Tagged.tag_of g.T.Tagged.fits x.number x.family x.senders left) c.recv.view_is out.given_fit
 
+pub returns-clause-order : goal.returns-clause-order
+returns-clause-order g c =
+    let R : Type 0 = Receiver g.row.T-Letter.Denot g.row.T-Family.Denot in
+    let V : Type 0 = PassView g.row.T-Letter.Denot g.row.T-Family.Denot in
+    let letter = g.T.Tagged.letter in
+    let r = c.recv.invariant in
+    let v : V = c.recv.inside.pass.me.view.client in
+    let w : V = c.drain.new.pass.me.view.client in
+    let n : ℕ = c.recv.inside.taken in
+    let left : List g.row.T.Denot = c.in_ok-left.left.items in
+    let none : List g.row.T.Denot = [] in
+    let before : List g.row.T.Denot = reverse c.recv.inside.hand.items in
+    let off = subst (λ (l : List g.row.T.Denot). TakenOff letter g.T.Tagged.tag_of g.T.Tagged.fits v w c.reverse.new.self.items l) (sym (append-nil left)) c.in_ok-left.ensures.off in
+    let out = hands_out letter g.T.Tagged.tag_of g.T.Tagged.fits v w n c.recv.inside.senders (n + length c.recv.inside.hand.items) before c.reverse.new.self.items left none r.1 (omega arith) r.5 r.6 c.reverse.ensures.items off in
+    let count : c.len.result ≡ length left = search rules in
+    let a = ap (λ (x : R). length x.known) c.recv.view_is in
+    let b = ap (λ (x : R). x.senders) c.recv.view_is in
+    let all = c.requires in
+    let none_out : length v.known ≡ c.recv.inside.senders = omega arith in
+    let end = ending letter g.T.Tagged.tag_of g.T.Tagged.fits v w (map letter off.more) c.recv.inside.senders (n + length c.recv.inside.hand.items) r.1 none_out off.view c.in_ok-left.ensures.empty in
+    let got : v.got ++ map letter off.more ≡ take n v.got ++ map letter left = sym (ap (λ (y : V). y.got) off.view) ∙ out.whole ∙ append-nil (take n v.got ++ map letter left) in
+    let receiving : Receiving c.recv.inside.latch 0 (total_length v.known) n = all_in c.recv.inside.latch _ _ _ (omega arith) r.4 in
+    let sum : n + length left ≡ total_length v.known = (let s = end.1 in let t = out.size in let u = ap (λ (y : V). length y.got) off.view in omega arith) in
+    (out.order.0, ap (λ (x : R). x.hand ++ out.order.0) (sym c.recv.view_is) ∙ out.order.1)
+
 pub returns-clause-closed : goal.returns-clause-closed
 returns-clause-closed g c =
     let R : Type 0 = Receiver g.row.T-Letter.Denot g.row.T-Family.Denot in
@@ -170,4 +195,11 @@ returns-clause-closed g c =
     let got : v.got ++ map letter off.more ≡ take n v.got ++ map letter left = sym (ap (λ (y : V). y.got) off.view) ∙ out.whole ∙ append-nil (take n v.got ++ map letter left) in
     let receiving : Receiving c.recv.inside.latch 0 (total_length v.known) n = all_in c.recv.inside.latch _ _ _ (omega arith) r.4 in
     let sum : n + length left ≡ total_length v.known = (let s = end.1 in let t = out.size in let u = ap (λ (y : V). length y.got) off.view in omega arith) in
-    λ closed. none_left left (let full = c.learn.ensures.settled (total_length v.known) n receiving (ap (λ (x : R). x.closed) c.recv.view_is ∙ closed) in omega arith)
+    λ closed. (let full = c.learn.ensures.settled (total_length v.known) n receiving (ap (λ (x : R). x.closed) c.recv.view_is ∙ closed) in
+    let no_more : length left ≡ 0 = omega arith in
+    let was : length c.args.recv.hand ≡ length before = ap (λ (x : R). length x.hand) (sym c.recv.view_is) ∙ ap length r.5 ∙ length-map before letter in
+    let parts = ap length out.order.1 ∙ length-append (map letter left) (map letter none) in
+    let mapped = length-map left letter in
+    let both = length-append (drop n v.got) out.order.0 in
+    let here = ap length r.5 ∙ length-map before letter in
+    (none_left c.args.recv.hand (omega arith), none_left left no_more))

@@ -1,10 +1,10 @@
 use Rattle.std.proofs.Common.{rules, ◌≡◌, ℕ, ◌+◌, ◌-◌, ◌<◌, ◌≤◌, List, [], ◌++◌, map, reverse, take, drop, length, sym, ap, ◌∙◌, subst, arith}
-use Rattle.std.proofs.lemmas.List.{length-reverse}
+use Rattle.std.proofs.lemmas.List.{length-reverse, length-map, map-append}
 use Rattle.lw_base.specs.Letters.{total_length}
 use Rattle.lw_ring.specs.declared.queue.PassView.{PassView}
 use Rattle.lw_ring.specs.Queue.{AllFit}
 use Rattle.lw_ring.specs.Ends.{Receiver, ReceiverView, Receiving, closed_of}
-use Rattle.lw_ring.proofs.Handing.{hands_out}
+use Rattle.lw_ring.proofs.Handing.{hands_out, enough_in_hand}
 use Rattle.lw_ring.proofs.Rows.{receiving_more}
 use Rattle.lw_ring.proofs.recv.RecvEnd.take_into.Goals as goal
 
@@ -94,3 +94,25 @@ returns-clause-each g c =
     let out = hands_out g.T.Tagged.letter g.T.Tagged.tag_of g.T.Tagged.fits v w c.self.inside.taken c.self.inside.senders (c.self.inside.taken + length c.self.inside.hand.items) before _ given (reverse c.fill.new.hand.items) r.1 (omega arith) r.5 r.6 start c.fill.ensures.off in
     let count : c.len.result ≡ length given = search rules in
     subst (λ (x : R). AllFit g.T.Tagged.letter g.T.Tagged.tag_of g.T.Tagged.fits x.number x.family x.senders given) c.self.view_is out.given_fit
+
+pub returns-clause-in_hand : goal.returns-clause-in_hand
+returns-clause-in_hand g c = λ enough.
+    let R : Type 0 = Receiver g.row.T-Letter.Denot g.row.T-Family.Denot in
+    let V : Type 0 = PassView g.row.T-Letter.Denot g.row.T-Family.Denot in
+    let r = c.self.invariant in
+    let v : V = c.self.inside.pass.me.view.client in
+    let w : V = c.fill.new.pass.me.view.client in
+    let given : List g.row.T.Denot = c.fill.new.batch.items in
+    let before : List g.row.T.Denot = reverse c.self.inside.hand.items in
+    let start : c.hand_out.new.batch.items ++ reverse c.hand_out.new.hand.items ≡ before = c.hand_out.ensures.items ∙ ap (λ (l : List g.row.T.Denot). l ++ before) c.requires.room.0 in
+    let out = hands_out g.T.Tagged.letter g.T.Tagged.tag_of g.T.Tagged.fits v w c.self.inside.taken c.self.inside.senders (c.self.inside.taken + length c.self.inside.hand.items) before _ given (reverse c.fill.new.hand.items) r.1 (omega arith) r.5 r.6 start c.fill.ensures.off in
+    let count : c.len.result ≡ length given = search rules in
+    let hand = ap (λ n. drop (c.self.inside.taken + n) w.got) count ∙ out.hand in
+    let letter = g.T.Tagged.letter in
+    let was : c.args.self.now.hand ≡ map letter before = ap (λ (x : R). x.hand) (sym c.self.view_is) ∙ r.5 in
+    let size = ap length was ∙ length-map before letter in
+    let one : List g.row.T.Denot = c.hand_out.new.batch.items in
+    let rest : List g.row.T.Denot = reverse c.hand_out.new.hand.items in
+    let full = enough_in_hand one rest before c.args.max start c.hand_out.ensures.count (λ less. ap (λ (l : List g.row.T.Denot). reverse l) (c.hand_out.ensures.all less)) (omega arith) in
+    let same = c.fill.ensures.full full in
+    was ∙ ap (map letter) (sym start) ∙ map-append letter one rest ∙ (λ k. map letter (sym same.0 k) ++ map letter (reverse (sym same.1 k))) ∙ ap (λ l. map letter given ++ l) (sym hand)
