@@ -1,7 +1,7 @@
 //! A thread's row of the registry.
 ghost use Rattle.std.specs.Prelude.{◌≡◌, ◌≢◌, ℕ, ◌+◌, ◌^◌, ◌<◌, ◌≤◌, [], ◌∷◌, ◌++◌, length, All, IfOk, IfErr};
 ghost use Rattle.lw_latch.specs.DeviceWord.{KnowsOpen, IsAbove, closing_word, held};
-ghost use Rattle.lw_latch.specs.DeviceEnds.{MayBeTakenIn};
+ghost use Rattle.lw_latch.specs.DeviceEnds.{FiresOnlyWhatItBegan, MayBeTakenIn};
 ghost use Rattle.lw_device.specs.Rows.{latches, seat_of, with_seat, both_rows, given, not_given, looked, found, visiting, not_visiting, destroyed, began, fired, tried};
 
 use lw_base::NoMemory;
@@ -131,7 +131,8 @@ impl DeviceRow {
         ensures began { IfOk result (λ given.
             (self.new ≡ with_seat self.old device (began given))
             × KnowsOpen (seat_of self.old device).view
-            × (length (seat_of self.old device).view.ordinals ≤ given)) }
+            × (length (seat_of self.old device).view.ordinals ≤ given)
+            × IsAbove given (seat_of self.old device).view.ordinals) }
         ensures already { IfErr result (λ _. self.new ≡ with_seat self.old device found) }
     {
         match self.seats[device as usize].shut() {
@@ -147,7 +148,7 @@ impl DeviceRow {
     /// with nothing open and the given count, and carries that word.
     pub fn callback_due(&mut self, device: u32) -> Firing
         requires device { device < length self.old.seats }
-        requires began { ((seat_of self.old device).view.begun ≡ 1)
+        requires began { (1 ≤ (seat_of self.old device).view.begun)
             × ((seat_of self.old device).began_by ≡ (seat_of self.old device).number) }
         ensures fired { result ≡ Firing.Fired →
             (self.new ≡ with_seat self.old device fired)
@@ -161,11 +162,13 @@ impl DeviceRow {
     }
 
     /// Takes in a row that holds no channel, has no visit and has fired each device that it began. From then on this row
-    /// keeps what the other had been given, found, begun and fired.
+    /// keeps what the other had been given, found, begun and fired. Of each of the two it is known that it fired only what
+    /// it began.
     pub fn take_in(&mut self, other: DeviceRow)
         requires registry { latches other ≡ latches self.old }
         requires free { All MayBeTakenIn other.seats }
-        ensures { self.new ≡ both_rows self.old other }
+        ensures both { self.new ≡ both_rows self.old other }
+        ensures only_who_began { All FiresOnlyWhatItBegan self.old.seats × All FiresOnlyWhatItBegan other.seats }
     {
         self.gather(other);
     }
@@ -173,7 +176,8 @@ impl DeviceRow {
     // Takes in any row of the registry, at the end.
     pub(crate) fn gather(&mut self, other: DeviceRow)
         requires { latches other ≡ latches self.old }
-        ensures { self.new ≡ both_rows self.old other }
+        ensures both { self.new ≡ both_rows self.old other }
+        ensures only_who_began { All FiresOnlyWhatItBegan self.old.seats × All FiresOnlyWhatItBegan other.seats }
     {
         let DeviceRow { thread: _, seats } = other;
         let mut device = 0;

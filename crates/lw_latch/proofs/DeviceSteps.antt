@@ -333,7 +333,7 @@ shuts all slots id me some_seat s h _ at small =
       keeps,
       tt,
       begins_one all s id v (bit_or n 65536) (n / 262144) me.1 h at (omega arith) some_seat (let o = sets_shut n unshut in omega arith) (r.unshut (omega arith)),
-      ((λ _. (refl, (f.found_shut (omega arith), omega arith), (let g = r.unshut (omega arith) in let t = at_le given s.views id v at in omega arith))), λ shut. absurd (shut unshut)),
+      ((λ _. (refl, (f.found_shut (omega arith), omega arith), (let g = r.unshut (omega arith) in let t = at_le given s.views id v at in omega arith), λ k l. (let z = h.none_else k (let g = r.unshut (omega arith) in omega arith) in let t = at_le (times_given k) s.views id v at in omega arith))), λ shut. absurd (shut unshut)),
     ))
     (λ shut. (
       view_found v,
@@ -346,7 +346,7 @@ shuts all slots id me some_seat s h _ at small =
 
 -- a shut latch with nothing open fires
 fires_once : (all : ℕ) (s : St) (id : ℕ) (v : DeviceView) (n m : ℕ) (c : List (ℕ × Unit {0})) → Tied all s → get_elem? s.views id ≡ some v
-    → v.begun ≡ 1 → device_word s.views ≡ closing_word m → n ≡ device_word s.views + 131072
+    → 1 ≤ v.begun → device_word s.views ≡ closing_word m → n ≡ device_word s.views + 131072
     → Tied all (stepped s 0 n id c (record v { fired = 1 }) keeps)
 fires_once all s id v n m c h at began closing is =
     let w : DeviceView = record v { fired = 1 } in
@@ -390,7 +390,7 @@ fires_once all s id v n m c h at began closing is =
           (at_set s.views id j w u e));
     }
 
-pub fires : (all slots id : ℕ) (me : Sat) (m old new : ℕ) → me.0.begun ≡ 1 → old ≡ closing_word m → new ≡ old + 131072
+pub fires : (all slots id : ℕ) (me : Sat) (m old new : ℕ) → 1 ≤ me.0.begun → old ≡ closing_word m → new ≡ old + 131072
     → Allows (Tied all) slots id me 0 (λ n. either (eqb n old) new n) (TriesToFire (step slots 0 old new none) me)
 fires all slots id me m old new began is_old is_new s h _ at small =
     let v = me.0 in

@@ -185,7 +185,7 @@ LooksAtShut step old word new =
 
 abbrev pub Begins : Step (Unit {0}) → Sat → ℕ → Sat → Type 0
 Begins step old word new =
-    (shut_bit word ≡ 0 → (new ≡ (view_begun (word / 262144) old.0, old.1)) × KnowsOpen old.0 × (given old.0 ≤ word / 262144))
+    (shut_bit word ≡ 0 → (new ≡ (view_begun (word / 262144) old.0, old.1)) × KnowsOpen old.0 × (given old.0 ≤ word / 262144) × IsAbove (word / 262144) old.0.ordinals)
     × (shut_bit word ≢ 0 → new ≡ (view_found old.0, old.1))
 
 abbrev pub TriesToFire : Step (Unit {0}) → Sat → ℕ → Sat → Type 0

@@ -1,7 +1,7 @@
 //! The latch of a device: who holds a channel or has a visit, and that none is given once it is shut.
 ghost use Rattle.std.specs.Prelude.{◌≡◌, ◌≢◌, ℕ, ◌+◌, ◌-◌, ◌*◌, ◌^◌, ◌<◌, ◌≤◌, true, false, length, IfOk};
 ghost use Rattle.lw_latch.specs.DeviceWord.{first_view, idle_view, view_given, view_not_given, view_found, view_begun, view_tried, closing_word, KnowsOpen, IsAbove, IsWhole, held};
-ghost use Rattle.lw_latch.specs.DeviceEnds.{DeviceLatch, AreNewSeats, MayBeTakenIn, new_seat, both_ends};
+ghost use Rattle.lw_latch.specs.DeviceEnds.{DeviceLatch, AreNewSeats, FiresOnlyWhatItBegan, MayBeTakenIn, new_seat, both_ends};
 
 use crate::device_view::{
     Beginning, DeviceSeats, DeviceTable, DeviceView, Giving, Holding, LearningAll, LettingGo,
@@ -114,6 +114,7 @@ impl Model for DeviceSeat {
         × (s.seat.me.0.leaving ≡ 0)
         × (s.began ≡ false → s.seat.me.0.begun ≡ 0)
         × (s.began ≡ true → 1 ≤ s.seat.me.0.begun)
+        × (s.seat.me.0.fired ≤ s.seat.me.0.begun)
         × (s.given ≡ s.seat.me.0.count)
         × (s.given < 2 ^ 46) };
 }
@@ -221,7 +222,8 @@ impl DeviceSeat {
               view = view_begun given self.old.view;
             })
             × KnowsOpen self.old.view
-            × (length self.old.view.ordinals ≤ given) }
+            × (length self.old.view.ordinals ≤ given)
+            × IsAbove given self.old.view.ordinals }
         ensures already { result ≡ Shutting.Already → self.new ≡ record self.old { view = view_found self.old.view } }
     {
         let found = self
@@ -242,7 +244,7 @@ impl DeviceSeat {
     /// It answers `Fired` exactly where the word was shut and not fired, with nothing open and the count that `shut`
     /// told, and so once at most. Else `NotYet` carries the word that was found.
     pub fn fire(&mut self) -> Firing
-        requires { (self.old.view.begun ≡ 1) × (self.old.began_by ≡ self.old.number) }
+        requires { (1 ≤ self.old.view.begun) × (self.old.began_by ≡ self.old.number) }
         ensures fired { result ≡ Firing.Fired →
             (self.new ≡ record self.old { view = record self.old.view { fired = 1 } })
             × (self.old.view.fired ≡ 0)
@@ -264,19 +266,22 @@ impl DeviceSeat {
     }
 
     /// Takes in a seat that has nothing open and has fired where it began. From then on this seat keeps what the other had
-    /// been given, found, begun and fired.
+    /// been given, found, begun and fired. Of each of the two it is known that it fired only what it began.
     pub fn take_in(&mut self, other: DeviceSeat)
         requires latch { other.latch ≡ self.old.latch }
         requires free { MayBeTakenIn other }
-        ensures { self.new ≡ both_ends self.old other }
+        ensures both { self.new ≡ both_ends self.old other }
+        ensures only_who_began { FiresOnlyWhatItBegan self.old × FiresOnlyWhatItBegan other }
     {
         self.gather(other);
     }
 
-    /// Takes in any seat of the latch, at the end, when all seats come into one hand.
+    /// Takes in any seat of the latch, at the end, when all seats come into one hand. Of each of the two it is known that it
+    /// fired only what it began.
     pub fn gather(&mut self, other: DeviceSeat)
         requires { other.latch ≡ self.old.latch }
-        ensures { self.new ≡ both_ends self.old other }
+        ensures both { self.new ≡ both_ends self.old other }
+        ensures only_who_began { FiresOnlyWhatItBegan self.old × FiresOnlyWhatItBegan other }
     {
         let DeviceSeat {
             table: _,
