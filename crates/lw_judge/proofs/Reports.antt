@@ -5,7 +5,7 @@ use Rattle.std.specs.declared.alloc.AllocError.{AllocError}
 use Rattle.lw_model.specs.declared.record.Record.{Record}
 use Rattle.lw_model.specs.Verdict.{verdict}
 use Rattle.lw_model.proofs.Judged.{verdict-exact}
-use Rattle.lw_report.specs.declared.read.contents.Contents.{Contents}
+use Rattle.lw_report.specs.declared.contents.Contents.{Contents}
 use Rattle.lw_report.specs.Ranges.{InRange}
 use Rattle.lw_report.specs.Report.{reading}
 use Rattle.lw_report.specs.Parsed.{IsStatic, contents_of}

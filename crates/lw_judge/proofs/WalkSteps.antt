@@ -12,8 +12,8 @@ use Rattle.lw_model.specs.declared.record.Answer.TheVariants as answer
 use Rattle.lw_model.specs.OwnOrder.{own_order, own_order_of, steps_of}
 use Rattle.lw_model.specs.Threads.{did_of}
 use Rattle.lw_model.proofs.Growth.{all-append, all-in_order}
-use Rattle.lw_judge.specs.LinesOf.{IsPlaced}
-use Rattle.lw_judge.proofs.Threads.{listed}
+use Rattle.lw_judge_threads.specs.LinesOf.{IsPlaced}
+use Rattle.lw_judge_threads.proofs.Threads.{listed}
 
 -- what holds of each item of a list
 pub all_at : {X : Type 0} (P : X → Type 0) (xs : List X) (i : ℕ) (d : X) → AllByRecursion P xs → i < length xs → P (get_or xs i d)

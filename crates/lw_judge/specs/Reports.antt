@@ -4,7 +4,7 @@ use Rattle.lw_model.specs.declared.record.Record.{Record}
 use Rattle.lw_model.specs.ReportText.{text_of}
 use Rattle.lw_model.specs.Lawful.{Lawful}
 use Rattle.lw_model.specs.Verdict.{verdict}
-use Rattle.lw_report.specs.declared.read.contents.Contents.{Contents}
+use Rattle.lw_report.specs.declared.contents.Contents.{Contents}
 use Rattle.lw_report.specs.Ranges.{InRange}
 use Rattle.lw_report.specs.Report.{reading}
 use Rattle.lw_report.specs.Parsed.{IsStatic, contents_of}

@@ -6,11 +6,11 @@ use Rattle.lw_model.specs.declared.step.Step.{Step}
 use Rattle.lw_model.specs.Verdict.{least_failing}
 use Rattle.lw_judge.specs.declared.walk.Going.{Going}
 use Rattle.lw_judge.specs.declared.walk.Walk.{Walk}
-use Rattle.lw_judge.specs.Holdings.{HoldsAt}
-use Rattle.lw_judge.specs.AnsweringAt.{IsAnsweringAt, answers_of}
-use Rattle.lw_judge.specs.DevicesTold.{AreDevicesAt, TellsAt}
-use Rattle.lw_judge.specs.MarksAt.{AreMarksAt}
-use Rattle.lw_judge.specs.SendsAt.{AreSendsAt}
+use Rattle.lw_judge_threads.specs.Holdings.{HoldsAt}
+use Rattle.lw_judge_answers.specs.AnsweringAt.{IsAnsweringAt, answers_of}
+use Rattle.lw_judge_devices.specs.DevicesTold.{AreDevicesAt, TellsAt}
+use Rattle.lw_judge_messages.specs.MarksAt.{AreMarksAt}
+use Rattle.lw_judge_messages.specs.SendsAt.{AreSendsAt}
 
 -- what is known of thread t
 pub record IsGoingAt (r : Record) (t : ℕ) (past : List Step) (g : Going) : Type 0 where

@@ -2,9 +2,9 @@
 ghost use Rattle.std.specs.Prelude.{◌≡◌, [], ◌%◌};
 ghost use Rattle.lw_model.specs.Verdict.{least_failing, homes_and_hops, buffers_home};
 ghost use Rattle.lw_model.specs.Lines.{clock_line, home_line};
-ghost use Rattle.lw_judge.specs.LinesOf.{AreThreadLines};
+ghost use Rattle.lw_judge_threads.specs.LinesOf.{AreThreadLines};
 
-use crate::lines::{ThreadLines, failing, lesser};
+use lw_judge_threads::{ThreadLines, failing, lesser};
 use lw_model::Record;
 
 /// The first `thread` line with another home than the thread's number modulo the reactors, or the first `hop` line: a

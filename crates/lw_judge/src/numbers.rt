@@ -2,11 +2,11 @@
 ghost use Rattle.std.specs.Prelude.{◌≡◌, [], IfOk};
 ghost use Rattle.lw_model.specs.Moves.{number_fits};
 ghost use Rattle.lw_model.specs.Verdict.{least_failing, numbers};
-ghost use Rattle.lw_judge.specs.Firsts.{first_unfit};
-ghost use Rattle.lw_judge.specs.LinesOf.{AreThreadLines};
+ghost use Rattle.lw_judge_threads.specs.Firsts.{first_unfit};
+ghost use Rattle.lw_judge_threads.specs.LinesOf.{AreThreadLines};
 
-use crate::lines::{ThreadLines, at_line, lesser};
 use lw_base::{NoMemory, Tag};
+use lw_judge_threads::{ThreadLines, at_line, lesser};
 use lw_model::Record;
 use std::alloc::Global;
 use std::collections::HashMap;

@@ -5,21 +5,19 @@ ghost use Rattle.lw_model.specs.Lawful as lawful;
 ghost use Rattle.lw_model.specs.Threads.{thread_count};
 ghost use Rattle.lw_model.specs.Verdict.{first_failing, rules, verdict};
 ghost use Rattle.lw_judge.specs.declared.answer.Verdict.TheVariants as answer;
-ghost use Rattle.lw_judge.specs.LinesOf.{IsLayout};
-ghost use Rattle.lw_judge.specs.Tokens.{AreRunners};
+ghost use Rattle.lw_judge_threads.specs.LinesOf.{IsLayout};
+ghost use Rattle.lw_judge_messages.specs.Tokens.{AreRunners};
 ghost use Rattle.lw_judge.specs.Verdicts.{verdict_as};
 ghost use Rattle.lw_judge.specs.Walked.{IsWalkedTo};
 
 use crate::answer::Verdict;
 use crate::homes::{buffers_home, homes_and_hops};
-use crate::lines::Layout;
 use crate::numbers::numbers;
-use crate::ran::ran_is_sent;
-use crate::replies::replies;
-use crate::seen::visits_seen;
-use crate::tokens::Runners;
 use crate::walk::Walk;
 use lw_base::NoMemory;
+use lw_judge_devices::replies;
+use lw_judge_messages::{Runners, ran_is_sent, visits_seen};
+use lw_judge_threads::Layout;
 use lw_model::Record;
 use std::alloc::Global;
 

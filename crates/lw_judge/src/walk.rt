@@ -2,19 +2,15 @@
 ghost use Rattle.std.specs.Prelude.{◌≡◌, ◌<◌, ◌^◌, ◌+◌, ◌∷◌, [], ℕ, List, Some, length, slice_get, IfOk, OnOk};
 ghost use Rattle.lw_model.specs.declared.step.Step.{Step};
 ghost use Rattle.lw_model.specs.Threads.{thread_count};
-ghost use Rattle.lw_judge.specs.LinesOf.{AreThreadLines, StandsAt, IsPlaced};
-ghost use Rattle.lw_judge.specs.Tokens.{AreRunners};
+ghost use Rattle.lw_judge_threads.specs.LinesOf.{AreThreadLines, StandsAt, IsPlaced};
+ghost use Rattle.lw_judge_messages.specs.Tokens.{AreRunners};
 ghost use Rattle.lw_judge.specs.Walked.{IsGoingAt, IsWalkedTo};
 
-use crate::answers::{Answering, answers_of_thread};
-use crate::devices::{Devices, Tells};
-use crate::holding::Holding;
-use crate::lines::{ThreadLines, lesser};
-use crate::order::own_order;
-use crate::sends::Sends;
-use crate::tokens::Runners;
-use crate::visits::Marks;
 use lw_base::NoMemory;
+use lw_judge_answers::{Answering, answers_of_thread};
+use lw_judge_devices::{Devices, Tells};
+use lw_judge_messages::{Marks, Runners, Sends};
+use lw_judge_threads::{Holding, ThreadLines, lesser, own_order};
 use lw_model::{Record, Step, ThreadRecord};
 use std::alloc::Global;
 

@@ -1,22 +1,16 @@
 -- What an accepted script has: names, and patterns of some bytes.
-use Rattle.std.proofs.Common.{◌≡◌, ℕ, ◌+◌, ◌<◌, Bool, true, false, cond, ◌&&◌, not, List, [], ◌∷◌, ◌++◌, map, length, find, nat_le, Option, Some, None, option_map, refl, sym, ap, ap₂, ◌∙◌, arith}
+use Rattle.std.proofs.Common.{◌≡◌, ℕ, ◌+◌, Bool, true, false, cond, ◌&&◌, not, List, [], ◌∷◌, ◌++◌, map, find, Option, Some, None, option_map, refl, sym, ap, ◌∙◌}
 use Rattle.std.specs.List.{list_all, enumerate_from}
-use Rattle.std.proofs.lemmas.Bool.{and_parts, and_from, leb-true}
+use Rattle.std.proofs.lemmas.Bool.{and_parts, and_from}
 use Rattle.lw_model.specs.declared.script.Script.{Script}
 use Rattle.lw_model.specs.declared.script.ImageOf.{ImageOf}
 use Rattle.lw_model.specs.declared.script.ClientOf.{ClientOf}
 use Rattle.lw_model.specs.declared.script.Op.{Op}
 use Rattle.lw_model.specs.declared.refusal.ScriptRefusal.TheVariants.{Pattern}
-use Rattle.lw_model.specs.ScriptRules.{Placed, is_name, is_name_byte, is_distinct, names_an_image, all_ops, is_within, is_pattern, placed_ops, with_earlier, first_bad_pattern, rule_answers, rule_broken}
+use Rattle.lw_model.specs.ScriptRules.{Placed, is_name, is_distinct, names_an_image, all_ops, is_pattern, placed_ops, with_earlier, first_bad_pattern, rule_answers, rule_broken}
 use Rattle.lw_model.proofs.Rules.{names-kept, each-none}
 use Rattle.lw_model.proofs.Passing.{list_all-flat_map, list_all-same}
 use Rattle.std.proofs.lemmas.List.Folds.{list_all-map}
-
-pub named_length : (name : List ℕ) → is_name name ≡ true → 0 < length name
-named_length name e =
-    let a = and_parts (is_within 1 32 (length name)) (list_all is_name_byte name) e in
-    let b = and_parts (nat_le 1 (length name)) (nat_le (length name) 32) a.0 in
-    omega (arith, leb-true 1 (length name) b.0)
 
 module _ (s : Script) (e : rule_broken s ≡ None) where
   all_named : (list_all is_name (map (λ i. i.name) s.images) ≡ true) × (list_all is_name (map (λ c. c.name) s.clients) ≡ true)

@@ -5,9 +5,9 @@ use Rattle.lw_model.specs.declared.script.ClientOf.{ClientOf}
 use Rattle.lw_model.specs.declared.record.Home.{Home}
 use Rattle.lw_model.specs.declared.refusal.ScriptRefusal.{ScriptRefusal}
 use Rattle.lw_model.specs.ScriptRules.{rule_broken}
-use Rattle.lw_report.specs.declared.read.single.NumberLine.TheVariants.{Images, Clients}
-use Rattle.lw_report.specs.declared.read.single.PairLine.TheVariants.{Pool}
-use Rattle.lw_report.specs.Once.{pair_of_in}
+use Rattle.lw_report_lines.specs.declared.single.NumberLine.TheVariants.{Images, Clients}
+use Rattle.lw_report_lines.specs.declared.single.PairLine.TheVariants.{Pool}
+use Rattle.lw_report_lines.specs.Once.{pair_of_in}
 use Rattle.lw_base.specs.declared.message.Tag.{Tag}
 use Rattle.lw_model.specs.declared.record.ThreadRecord.{ThreadRecord}
 use Rattle.lw_model.specs.declared.record.RoleKind.{RoleKind}
@@ -17,7 +17,7 @@ use Rattle.lw_model.specs.declared.record.Did.{Did}
 use Rattle.lw_model.specs.declared.record.Called.{Called}
 use Rattle.lw_model.specs.declared.record.Reply.{Reply}
 use Rattle.lw_model.specs.declared.record.Seen.{Seen}
-use Rattle.lw_report.specs.LineKinds.{image_in, hop_in, ran_in, did_in, called_in, reply_in, seen_in}
+use Rattle.lw_report_lines.specs.LineKinds.{image_in, hop_in, ran_in, did_in, called_in, reply_in, seen_in}
 use Rattle.lw_report.specs.Machine.{State, ◌>>=◌, one, many}
 use Rattle.lw_report.specs.Report.{accepted, client_at, client_lines, list_at, script_at, thread_lines}
 

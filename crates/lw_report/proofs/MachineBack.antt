@@ -16,15 +16,17 @@ use Rattle.lw_model.specs.declared.record.Seen.{Seen}
 use Rattle.lw_model.specs.ScriptRules.{is_name, is_pattern, is_within}
 use Rattle.lw_model.specs.Printable.{has_a_line, has_bytes, has_results, has_role, is_empty, is_clients_alone, may_reply, is_printable_thread}
 use Rattle.lw_model.specs.ReportText.{line, count_of, image_line, op_line, client_lines as lines_of_client, hop_line, ran_line, did_line, called_line, reply_line, seen_line, role_word, thread_line, thread_lines as lines_of_thread, device_line}
-use Rattle.lw_report.specs.LineKinds.{hop_in, ran_in, did_in, called_in, reply_in, seen_in, thread_in, client_in, op_in}
+use Rattle.lw_report_lines.specs.LineKinds.{hop_in, ran_in, did_in, called_in, reply_in, seen_in, thread_in, client_in, op_in}
 use Rattle.lw_report.specs.Machine.{State, ◌>>=◌, taken, one, many, many_from, numbered}
 use Rattle.lw_report.specs.Report.{client_at, client_lines, role_at, thread_lines, thread_at}
-use Rattle.lw_report.specs.Ranges.{Fits32, Fits64, HopFits, TagFits, DidFits, CalledFits, ReplyFits, SeenFits, ThreadFits, OpFits, ClientFits}
+use Rattle.lw_report_lines.specs.Ranges.{Fits32, Fits64, HopFits, TagFits, DidFits, CalledFits, ReplyFits, SeenFits, OpFits}
+use Rattle.lw_report.specs.Ranges.{ThreadFits, ClientFits}
+use Rattle.lw_report_lines.proofs.Said.{some_is}
 use Rattle.lw_report.proofs.Reading.{state}
 use Rattle.lw_report.proofs.ReportTexts.{fed, one_by_one}
 use Rattle.lw_report.proofs.Chains.{own_lines, thread_of_lines}
-use Rattle.lw_report.proofs.LinesBack.{hop_back, ran_back, did_back, called_back, thread_back}
-use Rattle.lw_report.proofs.ScriptBack.{reply_back, seen_back, client_back, op_back}
+use Rattle.lw_report_lines.proofs.LinesBack.{hop_back, ran_back, did_back, called_back, thread_back}
+use Rattle.lw_report_lines.proofs.ScriptBack.{reply_back, seen_back, client_back, op_back}
 
 pub fed_both : (xs ys R : List (List ℕ)) → fed (xs ++ ys) ++ R ≡ fed xs ++ (fed ys ++ R)
 fed_both xs ys R = ap (λ q. q ++ R) (map-append (λ (l : List ℕ). l ++ 10 ∷ []) xs ys) ∙ append_assoc (fed xs) (fed ys) R
@@ -41,9 +43,6 @@ one_back {X = X} f s l R x e h = subst (λ ls. one f (state s.line ls) ≡ Ok (x
         ]) (Ok (x, state (s.line + 1) R))
     at None e = let wrong : None ≡ Some x = e in cc
     at (Some y) e = ap (λ z. Ok (z, state (s.line + 1) R)) (some_is e)
-      where
-        some_is : Some y ≡ Some x → y ≡ x
-        some_is e = cc
 
 -- the first of these lines is none of a kind
 abbrev pub Stops : {X : Type 0} → (List ℕ → Option X) → List (List ℕ) → Type 0

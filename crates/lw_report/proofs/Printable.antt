@@ -19,17 +19,18 @@ use Rattle.lw_model.specs.declared.record.SeenBy.{SeenBy}
 use Rattle.lw_model.specs.declared.record.SeenBy.TheVariants as by
 use Rattle.lw_model.specs.ScriptRules.{rule_broken, is_within}
 use Rattle.lw_model.specs.Printable.{has_a_line, has_bytes, has_results, has_role, may_reply, is_printable_thread, is_printable}
-use Rattle.lw_report.specs.LineParts.{after, spaced, u32_max, u64_max}
-use Rattle.lw_report.specs.LineKinds.{last32, last64, ended, visit_in, cast_in, what_in, ran_in, called_in, bytes_in, last_digits, decoded, replied_in, reply_in, results, mark, is_space, hop_in, did_in, image_in, thread_in, device_in, results_in, seen_in}
-use Rattle.lw_report.specs.declared.read.contents.Contents.{Contents}
-use Rattle.lw_report.specs.declared.read.single.FixedLine.TheVariants.{Title, StaticScheduler, End}
-use Rattle.lw_report.specs.declared.read.single.NumberLine.TheVariants.{Period, Images, Clients}
-use Rattle.lw_report.specs.declared.read.single.PairLine.TheVariants.{Pool, Left}
-use Rattle.lw_report.specs.Once.{fixed_in, number_of_in, pair_of_in, reactors_in}
+use Rattle.lw_report_lines.specs.LineParts.{after, spaced, u32_max, u64_max}
+use Rattle.lw_report_lines.specs.LineKinds.{last32, last64, ended, visit_in, cast_in, what_in, ran_in, called_in, bytes_in, last_digits, decoded, replied_in, reply_in, results, mark, is_space, hop_in, did_in, image_in, thread_in, device_in, results_in, seen_in}
+use Rattle.lw_report.specs.declared.contents.Contents.{Contents}
+use Rattle.lw_report_lines.specs.declared.single.FixedLine.TheVariants.{Title, StaticScheduler, End}
+use Rattle.lw_report_lines.specs.declared.single.NumberLine.TheVariants.{Period, Images, Clients}
+use Rattle.lw_report_lines.specs.declared.single.PairLine.TheVariants.{Pool, Left}
+use Rattle.lw_report_lines.specs.Once.{fixed_in, number_of_in, pair_of_in, reactors_in}
 use Rattle.lw_base.specs.TextLines.{is_nil}
 use Rattle.lw_report.specs.Machine.{State, one, many}
 use Rattle.lw_report.specs.Report.{list_at, client_at, script_at, role_at, thread_lines, thread_at, threads_at, devices_at, report_at}
-use Rattle.lw_report.proofs.Said.{read_parts, some_parts, map_parts, if_some, if_ok, one_said, many_all, numbered_all, chosen}
+use Rattle.lw_report_lines.proofs.Said.{some_is, some_parts, map_parts, if_some, chosen}
+use Rattle.lw_report.proofs.Said.{read_parts, if_ok, one_said, many_all, numbered_all}
 
 -- ---- messages
 
@@ -76,9 +77,6 @@ ran_has l m e =
     let d = some_parts (what_in c.0.1) _ m c.2 in
     let same : record { sender = b.0.0; number = c.0.0; what = d.0 } ≡ m = some_is d.2 in
     subst (λ (x : Tag). has_a_line x.what ≡ true) same (what_has c.0.1 d.0 d.1)
-  where
-    some_is : {A : Type 0} {x y : A} → Some x ≡ Some y → x ≡ y
-    some_is e = cc
 
 pub called_below : (images : ℕ) (l : List ℕ) (x : Called) → called_in images l ≡ Some x → nat_lt x.device images ≡ true
 called_below images l x e =
@@ -117,9 +115,6 @@ reply_fits l x e =
     let b = some_parts (spaced u32_max a.0) _ x a.2 in
     let d = some_parts (replied_in b.0.1) _ x b.2 in
     subst (λ (y : Reply). has_bytes y.answer ≡ true) (some_is d.2) (reply_has b.0.1 d.0 d.1)
-  where
-    some_is : {A : Type 0} {x y : A} → Some x ≡ Some y → x ≡ y
-    some_is e = cc
 
 -- as many results as were counted
 results_length : {X : Type 0} (one : List ℕ → Option (X × List ℕ)) (k : ℕ) (l : List ℕ) (xs : List X) → results one k l ≡ Some xs → length xs ≡ k
@@ -128,9 +123,6 @@ results_length {X = X} one (suc k) l xs e =
     let a = some_parts (one l) _ xs e in
     let b = some_parts (results one k a.0.1) _ xs a.2 in
     sym (ap length (some_is b.2)) ∙ ap suc (results_length one k a.0.1 b.0 b.1)
-  where
-    some_is : {A : Type 0} {x y : A} → Some x ≡ Some y → x ≡ y
-    some_is e = cc
 
 pub results_fit : (l : List ℕ) (x : SeenBy) → results_in l ≡ Some x → has_results x ≡ true
 results_fit l x e = at (length (filter is_space l) == 0) (is_some (mark l)) refl e
@@ -161,9 +153,6 @@ seen_fits l x e =
     let b = some_parts (spaced u32_max a.0) _ x a.2 in
     let d = some_parts (results_in b.0.1) _ x b.2 in
     subst (λ (y : Seen). has_results y.results ≡ true) (some_is d.2) (results_fit b.0.1 d.0 d.1)
-  where
-    some_is : {A : Type 0} {x y : A} → Some x ≡ Some y → x ≡ y
-    some_is e = cc
 
 -- ---- threads
 

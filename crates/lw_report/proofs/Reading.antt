@@ -1,9 +1,9 @@
 -- Loops of the machine, one turn at a time.
 use Rattle.std.proofs.Common.{◌≡◌, ℕ, suc, ◌+◌, ◌-◌, ◌<◌, List, [], ◌∷◌, ◌++◌, Option, Some, None, Result, Ok, Err, append_assoc, append-nil, refl, sym, ap, ◌∙◌, arith}
-use Rattle.lw_report.specs.declared.read.lines.Stop.{Stop}
-use Rattle.lw_report.specs.declared.read.lines.Stop.TheVariants.{BadLine, NoMemory}
+use Rattle.lw_report.specs.declared.lines.Stop.{Stop}
+use Rattle.lw_report.specs.declared.lines.Stop.TheVariants.{BadLine, NoMemory}
 use Rattle.lw_report.specs.Machine.{State, Says, SaysList, taken, many, many_from, numbered, ◌>>=◌}
-use Rattle.lw_report.proofs.Results.{one_less}
+use Rattle.lw_report_lines.proofs.Results.{one_less}
 
 abbrev pub state : ℕ → List (List ℕ) → State
 state n ls = record { line = n; lines = ls }

@@ -9,13 +9,13 @@ use Rattle.lw_model.specs.declared.record.RoleKind.{RoleKind}
 use Rattle.lw_model.specs.declared.record.RoleKind.TheVariants.{App, Client, Owner}
 use Rattle.lw_model.specs.ScriptRules.{is_name, is_pattern}
 use Rattle.lw_model.specs.ReportText.{line, op_line, client_lines as lines_of_client, hop_line, ran_line, did_line, called_line, reply_line, seen_line, thread_lines as lines_of_thread, role_word}
-use Rattle.lw_report.specs.LineKinds.{hop_in, ran_in, did_in, called_in, reply_in, seen_in, thread_in, client_in, op_in}
+use Rattle.lw_report_lines.specs.LineKinds.{hop_in, ran_in, did_in, called_in, reply_in, seen_in, thread_in, client_in, op_in}
 use Rattle.lw_report.specs.Machine.{State, ◌>>=◌, one, many, many_from, numbered}
 use Rattle.lw_report.specs.Report.{client_at, client_lines, role_at, thread_lines, thread_at}
 use Rattle.lw_report.proofs.Said.{read_parts, numbered_all}
-use Rattle.lw_report.proofs.Accepted.{named_length}
-use Rattle.lw_report.proofs.LineTexts.{hop_text, ran_text, did_text, called_text, seen_text, thread_text}
-use Rattle.lw_report.proofs.ScriptTexts.{client_text, op_text, reply_text}
+use Rattle.lw_report_lines.proofs.Names.{named_length}
+use Rattle.lw_report_lines.proofs.LineTexts.{hop_text, ran_text, did_text, called_text, seen_text, thread_text}
+use Rattle.lw_report_lines.proofs.ScriptTexts.{client_text, op_text, reply_text}
 
 -- lines, each with its line feed
 abbrev pub fed : List (List ℕ) → List (List ℕ)

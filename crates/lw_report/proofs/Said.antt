@@ -1,34 +1,12 @@
--- What is known of what was read: its parts, and that a record of it has a text.
-use Rattle.std.proofs.Common.{◌≡◌, ℕ, zero, suc, ◌+◌, Bool, true, false, if◌then◌else◌, List, [], ◌∷◌, length, Option, Some, None, option_map, option_and_then, Result, Ok, Err, refl, sym, ap, ◌∙◌}
+-- What is known of what was read: its parts.
+use Rattle.std.proofs.Common.{◌≡◌, ℕ, zero, suc, ◌+◌, Bool, true, false, if◌then◌else◌, List, [], ◌∷◌, length, Option, Some, None, Result, Ok, Err, refl, sym, ap, ◌∙◌}
 use Rattle.std.specs.List.{list_all, enumerate_from}
 use Rattle.std.proofs.lemmas.Bool.{and_from}
-use Rattle.lw_report.specs.LineParts.{after}
-use Rattle.lw_report.specs.LineKinds.{choose}
 use Rattle.lw_report.specs.Machine.{State, ◌>>=◌, one, many_from, numbered}
-
-pub some_is : {A : Type 0} {x y : A} → Some x ≡ Some y → x ≡ y
-some_is e = cc
-
--- ---- parts of a reading that succeeded
 
 pub read_parts : {A B : Type 0} (r : Result A ℕ) (f : A → Result B ℕ) (b : B) → r >>= f ≡ Ok b → (a : A) × (r ≡ Ok a) × (f a ≡ Ok b)
 read_parts (Ok a) f b e = (a, refl, e)
 read_parts (Err n) f b e = cc
-
-pub some_parts : {A B : Type 0} (o : Option A) (f : A → Option B) (b : B) → option_and_then f o ≡ Some b → (a : A) × (o ≡ Some a) × (f a ≡ Some b)
-some_parts (Some a) f b e = (a, refl, e)
-some_parts None f b e = cc
-
-pub map_parts : {A B : Type 0} (o : Option A) (f : A → B) (b : B) → option_map f o ≡ Some b → (a : A) × (o ≡ Some a) × (f a ≡ b)
-map_parts (Some a) f b e = (a, refl, some_same e)
-  where
-    some_same : Some (f a) ≡ Some b → f a ≡ b
-    some_same e = cc
-map_parts None f b e = cc
-
-pub if_some : {A : Type 0} (t : Bool) (x y : A) → (if t then Some x else None) ≡ Some y → (t ≡ true) × (x ≡ y)
-if_some true x y e = (refl, cc)
-if_some false x y e = let wrong : None ≡ Some y = e in cc
 
 pub if_ok : {A : Type 0} (t : Bool) (x y : A) (n : ℕ) → ◌≡◌ {A = Result A ℕ} (if t then Ok x else Err n) (Ok y) → (t ≡ true) × (x ≡ y)
 if_ok true x y n e = (refl, cc)
@@ -75,12 +53,3 @@ numbered_all {X = X} f p each (suc k) n s t xs e =
       ap (λ ys. list_all (λ (q : ℕ × X). p q.0 q.1) (enumerate_from n ys)) (sym all)
           ∙ and_from (p n a.0.0) (list_all (λ q. p q.0 q.1) (enumerate_from (n + 1) b.0.0)) (each n s a.0.1 a.0.0 a.1) rest.1,
     )
-
--- what holds of each choice holds of what was chosen
-pub chosen : {X : Type 0} (P : X → Type 0) (text l : List ℕ) (f : List ℕ → Option X) (other : Option X) (x : X)
-    → ((rest : List ℕ) → f rest ≡ Some x → P x) → (other ≡ Some x → P x) → choose text l f other ≡ Some x → P x
-chosen {X = X} P text l f other x here rest e = at (after text l) e
-  where
-    at : (o : Option (List ℕ)) → ◌≡◌ {A = Option X} (elim o [ Some r ↦ f r | None ↦ other ]) (Some x) → P x
-    at None e = rest e
-    at (Some r) e = here r e

@@ -6,7 +6,7 @@ use Rattle.lw_model.specs.declared.record.Scheduler.{Scheduler}
 use Rattle.lw_model.specs.declared.record.Span.{Span}
 use Rattle.lw_model.specs.declared.record.Round.{Round}
 use Rattle.lw_model.specs.Printable.{is_printable}
-use Rattle.lw_report.specs.declared.read.contents.Contents.{Contents}
+use Rattle.lw_report.specs.declared.contents.Contents.{Contents}
 use Rattle.lw_report.specs.Parsed.{IsStatic, contents_of}
 
 -- a record without the fact that it has a text

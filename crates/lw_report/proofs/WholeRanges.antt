@@ -10,19 +10,20 @@ use Rattle.lw_model.specs.declared.record.RoleKind.{RoleKind}
 use Rattle.lw_model.specs.declared.record.RoleKind.TheVariants.{App, Client, Owner}
 use Rattle.lw_model.specs.ScriptRules.{rule_answers, rule_broken, has_client_count}
 use Rattle.lw_model.proofs.Rules.{kept, image_count-kept}
-use Rattle.lw_report.specs.declared.read.contents.Contents.{Contents}
-use Rattle.lw_report.specs.declared.read.single.FixedLine.TheVariants.{Title, StaticScheduler, End}
-use Rattle.lw_report.specs.declared.read.single.NumberLine.TheVariants.{Period, Images, Clients}
-use Rattle.lw_report.specs.declared.read.single.PairLine.TheVariants.{Pool, Left}
-use Rattle.lw_report.specs.LineKinds.{hop_in, ran_in, did_in, called_in, reply_in, seen_in, thread_in, device_in, image_in, client_in, op_in}
-use Rattle.lw_report.specs.Once.{fixed_in, number_of_in, pair_of_in, reactors_in}
+use Rattle.lw_report.specs.declared.contents.Contents.{Contents}
+use Rattle.lw_report_lines.specs.declared.single.FixedLine.TheVariants.{Title, StaticScheduler, End}
+use Rattle.lw_report_lines.specs.declared.single.NumberLine.TheVariants.{Period, Images, Clients}
+use Rattle.lw_report_lines.specs.declared.single.PairLine.TheVariants.{Pool, Left}
+use Rattle.lw_report_lines.specs.LineKinds.{hop_in, ran_in, did_in, called_in, reply_in, seen_in, thread_in, device_in, image_in, client_in, op_in}
+use Rattle.lw_report_lines.specs.Once.{fixed_in, number_of_in, pair_of_in, reactors_in}
 use Rattle.lw_base.specs.TextLines.{pieces, is_nil}
 use Rattle.lw_report.specs.Machine.{State, ◌>>=◌, one, many, many_from, numbered}
 use Rattle.lw_report.specs.Report.{list_at, client_at, script_at, client_lines, role_at, thread_lines, thread_at, threads_at, devices_at, report_at, reading}
-use Rattle.lw_report.specs.Ranges.{Fits32, Fits64, ReplyFits, SeenFits, OpFits, ImageFits, ClientFits, ScriptFits, ThreadFits, DeviceFits, HopFits, TagFits, DidFits, CalledFits, InRange}
+use Rattle.lw_report_lines.specs.Ranges.{Fits32, Fits64, ReplyFits, SeenFits, OpFits, ImageFits, DeviceFits, HopFits, TagFits, DidFits, CalledFits}
+use Rattle.lw_report.specs.Ranges.{ClientFits, ScriptFits, ThreadFits, InRange}
 use Rattle.lw_report.proofs.Said.{read_parts, if_ok, one_said, numbered_all}
 use Rattle.lw_report.proofs.WholeTexts.{none_is}
-use Rattle.lw_report.proofs.LineRanges.{hop_fits, ran_fits, did_fits, called_fits, reply_fits, seen_fits, home_fits, device_fits, pair_fits, image_fits, client_fits, op_fits}
+use Rattle.lw_report_lines.proofs.LineRanges.{hop_fits, ran_fits, did_fits, called_fits, reply_fits, seen_fits, home_fits, device_fits, pair_fits, image_fits, client_fits, op_fits}
 
 -- what holds of each line of a kind holds of all that are read
 many_fit : {X : Type 0} (f : List ℕ → Option X) (P : X → Type 0) → ((l : List ℕ) (x : X) → f l ≡ Some x → P x) → (n : ℕ) (ls : List (List ℕ)) → AllByRecursion P (many_from f n ls).0

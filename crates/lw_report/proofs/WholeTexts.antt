@@ -14,22 +14,24 @@ use Rattle.lw_model.specs.declared.record.Span.{Span}
 use Rattle.lw_model.specs.declared.record.Round.{Round}
 use Rattle.lw_model.specs.ScriptRules.{is_name, is_pattern, rule_broken}
 use Rattle.lw_model.specs.ReportText.{line, count_of, scheduler_word, image_line, client_lines, thread_lines, device_line, clock_lines, round_lines, text_of_lines, lines_of, text_of}
-use Rattle.lw_report.specs.declared.read.contents.Contents.{Contents}
-use Rattle.lw_report.specs.declared.read.single.FixedLine.{FixedLine}
-use Rattle.lw_report.specs.declared.read.single.FixedLine.TheVariants.{Title, StaticScheduler, End}
-use Rattle.lw_report.specs.declared.read.single.NumberLine.{NumberLine}
-use Rattle.lw_report.specs.declared.read.single.NumberLine.TheVariants.{Period, Images, Clients}
-use Rattle.lw_report.specs.declared.read.single.PairLine.TheVariants.{Pool, Left}
-use Rattle.lw_report.specs.LineKinds.{text_in, image_in, device_in}
-use Rattle.lw_report.specs.Once.{fixed_text, fixed_in, number_word, number_least, number_most, number_of_in, pair_of_in, reactors_in}
+use Rattle.lw_report.specs.declared.contents.Contents.{Contents}
+use Rattle.lw_report_lines.specs.declared.single.FixedLine.{FixedLine}
+use Rattle.lw_report_lines.specs.declared.single.FixedLine.TheVariants.{Title, StaticScheduler, End}
+use Rattle.lw_report_lines.specs.declared.single.NumberLine.{NumberLine}
+use Rattle.lw_report_lines.specs.declared.single.NumberLine.TheVariants.{Period, Images, Clients}
+use Rattle.lw_report_lines.specs.declared.single.PairLine.TheVariants.{Pool, Left}
+use Rattle.lw_report_lines.specs.LineKinds.{text_in, image_in, device_in}
+use Rattle.lw_report_lines.specs.Once.{fixed_text, fixed_in, number_word, number_least, number_most, number_of_in, pair_of_in, reactors_in}
 use Rattle.lw_base.specs.TextLines.{is_feed, put_on, pieces, is_nil}
 use Rattle.lw_report.specs.Machine.{State, one, numbered}
 use Rattle.lw_report.specs.Report.{list_at, client_at, script_at, thread_at, threads_at, devices_at, rest_at, report_at, reading}
 use Rattle.lw_report.specs.Parsed.{contents_of, IsStatic}
-use Rattle.lw_report.proofs.Said.{read_parts, if_some, if_ok, numbered_all}
-use Rattle.lw_report.proofs.Accepted.{named_length, images_named, clients_named, patterns_fit}
-use Rattle.lw_report.proofs.LineTexts.{fixed_text as text_is, counted_text, pair_text, device_text}
-use Rattle.lw_report.proofs.ScriptTexts.{image_text}
+use Rattle.lw_report_lines.proofs.Said.{if_some}
+use Rattle.lw_report.proofs.Said.{read_parts, if_ok, numbered_all}
+use Rattle.lw_report_lines.proofs.Names.{named_length}
+use Rattle.lw_report.proofs.Accepted.{images_named, clients_named, patterns_fit}
+use Rattle.lw_report_lines.proofs.LineTexts.{fixed_text as text_is, counted_text, pair_text, device_text}
+use Rattle.lw_report_lines.proofs.ScriptTexts.{image_text}
 use Rattle.lw_report.proofs.ReportTexts.{fed, Took, took_both, one_took, numbered_took, one_by_one, one_by_number, by_item, fits_client, client_took, thread_took}
 
 -- ---- single lines

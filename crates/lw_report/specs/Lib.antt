@@ -1,6 +1,3 @@
-pub mod LineParts
-pub mod LineKinds
-pub mod Once
 pub mod Machine
 pub mod Report
 pub mod Parsed

@@ -1,8 +1,8 @@
 -- Reading lines one after the other. A failure is the number of the bad line.
 use Rattle.std.specs.Prelude.{ℕ, zero, suc, ◌+◌, ◌≡◌, List, [], ◌∷◌, Option, Some, None, Result, Ok, Err, Vec, Bool, true, false}
 use Rattle.std.specs.declared.alloc.Global.{Global}
-use Rattle.lw_report.specs.declared.read.lines.Stop.{Stop}
-use Rattle.lw_report.specs.declared.read.lines.Stop.TheVariants.{BadLine, NoMemory}
+use Rattle.lw_report.specs.declared.lines.Stop.{Stop}
+use Rattle.lw_report.specs.declared.lines.Stop.TheVariants.{BadLine, NoMemory}
 
 -- the lines that are left, and the number of the first
 pub record State : Type 0 where

@@ -3,10 +3,10 @@ use Rattle.std.specs.Prelude.{List, ◌≡◌, ℕ, [], None, Result, Ok, Err}
 use Rattle.lw_model.specs.declared.record.Record.{Record}
 use Rattle.lw_model.specs.declared.record.Scheduler.TheVariants.{Static}
 use Rattle.lw_model.specs.ReportText.{text_of}
-use Rattle.lw_report.specs.declared.read.contents.Contents.{Contents}
+use Rattle.lw_report.specs.declared.contents.Contents.{Contents}
 use Rattle.lw_report.specs.Ranges.{InRange}
-use Rattle.lw_report.specs.declared.read.parsed.Parsed.{Parsed}
-use Rattle.lw_report.specs.declared.read.parsed.Parsed.TheVariants.{Told, BadLine}
+use Rattle.lw_report.specs.declared.parsed.Parsed.{Parsed}
+use Rattle.lw_report.specs.declared.parsed.Parsed.TheVariants.{Told, BadLine}
 
 -- the fields of a record that a static run's lines say
 abbrev pub contents_of : Record → Contents

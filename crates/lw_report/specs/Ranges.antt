@@ -1,86 +1,11 @@
 -- Numbers that fit their types: what every record that a program holds has, said of plain data.
-use Rattle.std.specs.Prelude.{ℕ, ◌+◌, ◌≤◌, ◌<◌, List, length}
+use Rattle.std.specs.Prelude.{◌+◌, length}
 use Rattle.std.specs.List.{AllByRecursion}
-use Rattle.hex.specs.Hex.{IsBytes}
-use Rattle.lw_base.specs.declared.message.What.{What}
-use Rattle.lw_base.specs.declared.message.What.TheVariants as what
-use Rattle.lw_base.specs.declared.message.Tag.{Tag}
-use Rattle.lw_base.specs.declared.message.Mark.{Mark}
 use Rattle.lw_model.specs.declared.script.Script.{Script}
-use Rattle.lw_model.specs.declared.script.ImageOf.{ImageOf}
 use Rattle.lw_model.specs.declared.script.ClientOf.{ClientOf}
-use Rattle.lw_model.specs.declared.script.Op.{Op}
-use Rattle.lw_model.specs.declared.script.Op.TheVariants as op
 use Rattle.lw_model.specs.declared.record.ThreadRecord.{ThreadRecord}
-use Rattle.lw_model.specs.declared.record.Hop.{Hop}
-use Rattle.lw_model.specs.declared.record.Did.{Did}
-use Rattle.lw_model.specs.declared.record.Answer.{Answer}
-use Rattle.lw_model.specs.declared.record.Answer.TheVariants as answer
-use Rattle.lw_model.specs.declared.record.Called.{Called}
-use Rattle.lw_model.specs.declared.record.Reply.{Reply}
-use Rattle.lw_model.specs.declared.record.Replied.{Replied}
-use Rattle.lw_model.specs.declared.record.Replied.TheVariants as replied
-use Rattle.lw_model.specs.declared.record.Seen.{Seen}
-use Rattle.lw_model.specs.declared.record.SeenBy.{SeenBy}
-use Rattle.lw_model.specs.declared.record.SeenBy.TheVariants as by
-use Rattle.lw_model.specs.declared.record.DeviceEnd.{DeviceEnd}
-use Rattle.lw_report.specs.declared.read.contents.Contents.{Contents}
-use Rattle.lw_report.specs.LineParts.{u32_max, u64_max}
-
-abbrev pub Fits32 : ℕ → Type 0
-Fits32 n = n ≤ u32_max
-
-abbrev pub Fits64 : ℕ → Type 0
-Fits64 n = n ≤ u64_max
-
-abbrev pub WhatFits : What → Type 0
-WhatFits (what.Request k) = Fits32 k
-WhatFits (what.Reply k) = Fits32 k
-WhatFits (what.PutSelf d) = Fits32 d
-WhatFits (what.Visit origin k d) = Fits32 origin × Fits32 k × Fits32 d
-WhatFits (what.Visited k) = Fits32 k
-WhatFits (what.Cast origin k) = Fits32 origin × Fits32 k
-WhatFits (what.Casted k) = Fits32 k
-WhatFits what.Done = Unit {0}
-WhatFits what.Stop = Unit {0}
-WhatFits (what.Arrive round thread) = Fits32 round × Fits32 thread
-WhatFits (what.Order round thread to) = Fits32 round × Fits32 thread × Fits32 to
-
-abbrev pub TagFits : Tag → Type 0
-TagFits m = Fits32 m.sender × Fits64 m.number × WhatFits m.what
-
-abbrev pub HopFits : Hop → Type 0
-HopFits h = Fits32 h.round × Fits32 h.reactor
-
-abbrev pub AnswerFits : Answer → Type 0
-AnswerFits (answer.Given n) = Fits64 n
-AnswerFits (answer.Again n) = Fits64 n
-AnswerFits (answer.Began n) = Fits64 n
-AnswerFits _ = Unit {0}
-
-abbrev pub DidFits : Did → Type 0
-DidFits x = Fits64 x.at × Fits32 x.op × AnswerFits x.answer
-
-abbrev pub CalledFits : Called → Type 0
-CalledFits x = Fits64 x.at × Fits32 x.device
-
-abbrev pub RepliedFits : Replied → Type 0
-RepliedFits replied.Ok = Unit {0}
-RepliedFits (replied.Bytes bytes) = IsBytes bytes
-RepliedFits (replied.Writes n) = Fits64 n
-
-abbrev pub ReplyFits : Reply → Type 0
-ReplyFits x = Fits32 x.op × RepliedFits x.answer
-
-abbrev pub MarkFits : Mark → Type 0
-MarkFits m = Fits32 m.thread × Fits64 m.submitted
-
-abbrev pub SeenByFits : SeenBy → Type 0
-SeenByFits (by.Visit marks) = AllByRecursion MarkFits marks
-SeenByFits (by.Cast threads) = AllByRecursion Fits32 threads
-
-abbrev pub SeenFits : Seen → Type 0
-SeenFits x = Fits32 x.op × SeenByFits x.results
+use Rattle.lw_report.specs.declared.contents.Contents.{Contents}
+use Rattle.lw_report_lines.specs.Ranges.{Fits32, Fits64, HopFits, TagFits, DidFits, CalledFits, ReplyFits, SeenFits, DeviceFits, OpFits, ImageFits}
 
 pub record ThreadFits (x : ThreadRecord) : Type 0 where
   pub home : Fits32 x.home
@@ -90,23 +15,6 @@ pub record ThreadFits (x : ThreadRecord) : Type 0 where
   pub called : AllByRecursion CalledFits x.called
   pub replies : AllByRecursion ReplyFits x.replies
   pub seen : AllByRecursion SeenFits x.seen
-
-abbrev pub DeviceFits : DeviceEnd → Type 0
-DeviceFits d = Fits64 d.given × Fits32 d.thread × Fits32 d.callbacks
-
-abbrev pub OpFits : Op → Type 0
-OpFits (op.Get d) = Fits32 d
-OpFits (op.Put d) = Fits32 d
-OpFits (op.Write d start count pattern) = Fits32 d × Fits64 start × Fits64 count × IsBytes pattern
-OpFits (op.Read d start count) = Fits32 d × Fits64 start × Fits64 count
-OpFits (op.Flush d) = Fits32 d
-OpFits (op.Wait ticks) = Fits64 ticks
-OpFits (op.Visit d) = Fits32 d
-OpFits op.Each = Unit {0}
-OpFits (op.Unregister d) = Fits32 d
-
-abbrev pub ImageFits : ImageOf → Type 0
-ImageFits i = Fits32 i.block × Fits64 i.blocks
 
 abbrev pub ClientFits : ClientOf → Type 0
 ClientFits c = Fits32 c.depth × AllByRecursion OpFits c.ops × Fits64 (length c.ops)

@@ -9,13 +9,13 @@ use Rattle.lw_model.specs.declared.record.DeviceEnd.{DeviceEnd}
 use Rattle.lw_model.specs.declared.record.Reply.{Reply}
 use Rattle.lw_model.specs.declared.record.Seen.{Seen}
 use Rattle.lw_model.specs.ScriptRules.{rule_broken}
-use Rattle.lw_report.specs.declared.read.contents.Contents.{Contents}
-use Rattle.lw_report.specs.declared.read.single.FixedLine.TheVariants.{Title, StaticScheduler, End}
-use Rattle.lw_report.specs.declared.read.single.NumberLine.{NumberLine}
-use Rattle.lw_report.specs.declared.read.single.NumberLine.TheVariants.{Period, Images, Clients}
-use Rattle.lw_report.specs.declared.read.single.PairLine.TheVariants.{Pool, Left}
-use Rattle.lw_report.specs.Once.{fixed_in, number_of_in, pair_of_in, reactors_in}
-use Rattle.lw_report.specs.LineKinds.{hop_in, ran_in, did_in, called_in, reply_in, seen_in, thread_in, device_in, image_in, client_in, op_in}
+use Rattle.lw_report.specs.declared.contents.Contents.{Contents}
+use Rattle.lw_report_lines.specs.declared.single.FixedLine.TheVariants.{Title, StaticScheduler, End}
+use Rattle.lw_report_lines.specs.declared.single.NumberLine.{NumberLine}
+use Rattle.lw_report_lines.specs.declared.single.NumberLine.TheVariants.{Period, Images, Clients}
+use Rattle.lw_report_lines.specs.declared.single.PairLine.TheVariants.{Pool, Left}
+use Rattle.lw_report_lines.specs.Once.{fixed_in, number_of_in, pair_of_in, reactors_in}
+use Rattle.lw_report_lines.specs.LineKinds.{hop_in, ran_in, did_in, called_in, reply_in, seen_in, thread_in, device_in, image_in, client_in, op_in}
 use Rattle.lw_base.specs.TextLines.{pieces, is_nil}
 use Rattle.lw_report.specs.Machine.{State, ◌>>=◌, one, many, numbered}
 

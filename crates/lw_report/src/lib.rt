@@ -1,17 +1,12 @@
-//! The record of a run and its text.
-//!
-//! `print` gives the text that the program writes. A record's type keeps that it has one.
+//! A report read back: a machine over lines, and the laws of the texts of records.
 #![tactic(auto)]
 
-mod parts;
-mod printed;
-mod read;
-mod text;
-mod threads;
+mod contents;
+mod laws;
+mod lines;
+mod parsed;
+mod report;
+mod sections;
 
-pub use lw_model::{
-    Answer, Called, DeviceEnd, Did, Home, Hop, Order, Record, Replied, Reply, RoleKind, Round, Row,
-    Scheduler, Seen, SeenBy, Span, ThreadRecord,
-};
-pub use read::{Parsed, read_report, texts_are_of_one_record, texts_are_read};
-pub use text::print;
+pub use laws::{texts_are_of_one_record, texts_are_read};
+pub use parsed::{Parsed, read_report};

@@ -1,5 +1,6 @@
 use lw_base::NoMemory;
-use lw_report::{Parsed, print, read_report};
+use lw_report::{Parsed, read_report};
+use lw_report_print::print;
 use std::alloc::Global;
 use std::test::Fail;
 

@@ -4,7 +4,7 @@ ghost use Rattle.std.specs.Prelude.{◌≡◌};
 ghost use Rattle.lw_target.specs.Options.{AreServed};
 
 use lw_model::Scheduler;
-use lw_report::print;
+use lw_report_print::print;
 use lw_script::{ScriptRefusal, read_script};
 use lw_target::{Options, run_script};
 use std::alloc::{AllocError, Global};
@@ -23,9 +23,9 @@ fn caller_alone() -> Options
     }
 }
 
-// The report of the run of a script.
-fn run(alloc: Global, script: &str) -> Result<Vec<u8>, ScriptRefusal> {
-    let script = read_script(alloc, script.as_bytes())?;
+// The report of the run of a script, from its bytes.
+fn run(alloc: Global, bytes: &[u8]) -> Result<Vec<u8>, ScriptRefusal> {
+    let script = read_script(alloc, bytes)?;
     match run_script(alloc, script, caller_alone()) {
         Ok(record) => match print(alloc, &record) {
             Ok(report) => Ok(report),
@@ -91,7 +91,7 @@ fn each_thread_runs_and_does_what_the_ops_ask(rt: HostRuntime) -> Result<(), Fai
     ];
     for (depth, ops, wanted) in cases {
         let script = script(alloc, depth, ops)?;
-        let report = run(alloc, script.as_str())?;
+        let report = run(alloc, script.as_bytes())?;
         assert!(rt; report.as_slice().ends_with(wanted.as_bytes()), "{ops}");
     }
     Ok(())
@@ -106,12 +106,13 @@ fn eighteen_reads_go_four_at_a_time(rt: HostRuntime) -> Result<(), Fail> {
     }
     ops.push_str(r#"["put","m"]"#)?;
     let script = script(alloc, 4, ops.as_str())?;
-    let report = run(alloc, script.as_str())?;
+    let report = run(alloc, script.as_bytes())?;
     let told = str::from_utf8(report.as_slice()).unwrap_or("");
     assert!(rt;
         told.contains(
             "did 0 0 given 0\ndid 0 1 sent\ndid 0 2 sent\ndid 0 3 sent\ndid 0 4 sent\ndid 4 5 sent\ndid 4 6 sent\ndid 4 7 sent\ndid 4 8 sent\ndid 8 9 sent\ndid 8 10 sent\ndid 8 11 sent\ndid 8 12 sent\ndid 12 13 sent\ndid 12 14 sent\ndid 12 15 sent\ndid 12 16 sent\ndid 16 17 sent\ndid 16 18 sent\ndid 18 19 deferred\ndid 18 20 closed\n"
         )
     );
+    assert!(rt; told.contains("ran 1 16 request 17\nran 1 17 request 18\nran 0 0 stop\n"));
     Ok(())
 }

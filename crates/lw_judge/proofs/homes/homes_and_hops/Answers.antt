@@ -1,6 +1,6 @@
 use Rattle.std.proofs.Common.{ℕ, ◌==◌, None, Some, cond, get_or, ap, ap₂, ◌∙◌}
-use Rattle.lw_judge.specs.Firsts.{lesser}
-use Rattle.lw_judge.proofs.Threads.{all_gone, all_threads, home_tests, homes_more, no_lines, read_at, some_reactor}
+use Rattle.lw_judge_threads.specs.Firsts.{lesser}
+use Rattle.lw_judge_threads.proofs.Threads.{all_gone, all_threads, home_tests, homes_more, no_lines, read_at, some_reactor}
 use Rattle.lw_judge.proofs.homes.homes_and_hops.Goals as goal
 
 pub nonzero_rem-is_home : goal.nonzero_rem-is_home

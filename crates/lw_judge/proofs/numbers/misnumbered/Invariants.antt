@@ -1,7 +1,7 @@
 use Rattle.std.proofs.Common.{◌≡◌, ℕ, ◌==◌, [], take, drop, reverse, count_by, unwrap_or, nat_eq}
 use Rattle.std.specs.HashMap.{get}
 use Rattle.lw_model.specs.Moves.{number_fits}
-use Rattle.lw_judge.specs.Firsts.{first_unfit}
+use Rattle.lw_judge_threads.specs.Firsts.{first_unfit}
 use Rattle.lw_judge.proofs.numbers.misnumbered.Given as goal
 
 abbrev pub invariant-loop-place : goal.invariant-loop-place

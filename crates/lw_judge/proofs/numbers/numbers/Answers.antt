@@ -1,8 +1,8 @@
 use Rattle.std.proofs.Common.{[], get_or, sym, ap, ◌∙◌}
 use Rattle.lw_model.specs.declared.record.ThreadRecord.{ThreadRecord}
 use Rattle.lw_model.specs.Moves.{number_fits}
-use Rattle.lw_judge.specs.Firsts.{at_line, first_unfit}
-use Rattle.lw_judge.proofs.Threads.{all_gone, all_threads, no_lines, numbers_more, numbers_within, read_at}
+use Rattle.lw_judge_threads.specs.Firsts.{at_line, first_unfit}
+use Rattle.lw_judge_threads.proofs.Threads.{all_gone, all_threads, no_lines, numbers_more, numbers_within, read_at}
 use Rattle.lw_judge.proofs.numbers.numbers.Goals as goal
 
 pub at_line-requires : goal.at_line-requires

@@ -4,17 +4,17 @@ use Rattle.std.proofs.lemmas.Option.{slice_get_within}
 use Rattle.std.specs.List.{AllByRecursion}
 use Rattle.lw_model.specs.Verdict.{least_failing, step_test}
 use Rattle.lw_model.proofs.Printed.{parts}
-use Rattle.lw_judge.specs.Firsts.{lesser}
-use Rattle.lw_judge.specs.Folded.{folded}
-use Rattle.lw_judge.specs.LinesOf.{IsPlaced}
+use Rattle.lw_judge_threads.specs.Firsts.{lesser}
+use Rattle.lw_judge_threads.specs.Folded.{folded}
+use Rattle.lw_judge_threads.specs.LinesOf.{IsPlaced}
 use Rattle.lw_judge.specs.Walked.{IsGoingAt, IsWalkedTo}
-use Rattle.lw_judge.specs.AnsweringAt.{answers_of}
-use Rattle.lw_judge.proofs.Counts.{past_more}
-use Rattle.lw_judge.proofs.ThreadCounts.{few_threads}
-use Rattle.lw_judge.proofs.Threads.{least_threads}
+use Rattle.lw_judge_answers.specs.AnsweringAt.{answers_of}
+use Rattle.lw_judge_threads.proofs.Counts.{past_more}
+use Rattle.lw_judge_messages.proofs.ThreadCounts.{few_threads}
+use Rattle.lw_judge_threads.proofs.Threads.{least_threads}
 use Rattle.lw_judge.proofs.WalkSteps.{all_at, no_step, placed, whole}
-use Rattle.lw_judge.proofs.DevicesSteps as devices
-use Rattle.lw_judge.proofs.VisitThreads as visits
+use Rattle.lw_judge_devices.proofs.DevicesSteps as devices
+use Rattle.lw_judge_messages.proofs.VisitThreads as visits
 use Rattle.lw_judge.proofs.walk.Walk.go_through.Goals as goal
 
 pub step-requires : goal.step-requires
@@ -46,8 +46,8 @@ returns c =
     let answering = c.loop-step.invariant.going.answering in
     record {
       sends = c.in_ok-finish.ensures (reverse (take c.loop-step.step-index c.as_slice-step-items.result.now)) all walked.sends;
-      devices = devices.next_thread r t c.loop-step.self.devices (subst (λ past. Rattle.lw_judge.specs.DevicesTold.AreDevicesAt r t past c.loop-step.self.devices) all walked.devices);
-      marks = visits.next_thread r t c.loop-step.self.marks (subst (λ past. Rattle.lw_judge.specs.MarksAt.AreMarksAt r t past c.loop-step.self.marks) all walked.marks);
+      devices = devices.next_thread r t c.loop-step.self.devices (subst (λ past. Rattle.lw_judge_devices.specs.DevicesTold.AreDevicesAt r t past c.loop-step.self.devices) all walked.devices);
+      marks = visits.next_thread r t c.loop-step.self.marks (subst (λ past. Rattle.lw_judge_messages.specs.MarksAt.AreMarksAt r t past c.loop-step.self.marks) all walked.marks);
       answers = c.lesser-self.ensures
           ∙ ap₂ lesser walked.answers (c.answers_of_thread-least.ensures c.requires.lines (c.least.ensures r t (reverse (take c.loop-step.step-index c.as_slice-step-items.result.now)) answering ∙ ap (λ past. least_failing (folded (step_test r t) past)) all))
           ∙ sym (least_threads (answers_of r) t);

@@ -1,7 +1,7 @@
 use Rattle.std.proofs.Common.{[], sym, subst, refl, ◌∙◌}
 use Rattle.lw_model.proofs.Printed.{parts}
 use Rattle.lw_judge.specs.Walked.{IsWalkedTo}
-use Rattle.lw_judge.proofs.Threads.{all_gone, no_lines, read_at}
+use Rattle.lw_judge_threads.proofs.Threads.{all_gone, no_lines, read_at}
 use Rattle.lw_judge.proofs.walk.Walk.of.Goals as goal
 
 pub loop-thread-init : goal.loop-thread-init

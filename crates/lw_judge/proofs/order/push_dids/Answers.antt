@@ -1,6 +1,0 @@
-use Rattle.lw_model.specs.declared.step.Step.TheVariants as step
-use Rattle.lw_judge.proofs.Numbered.{one_more}
-use Rattle.lw_judge.proofs.order.push_dids.Goals as goal
-
-pub loop-place-preserved : goal.loop-place-preserved
-loop-place-preserved c = one_more (λ i x. step.Did i x) _ _ _ c.args.dids.now c.loop-place.place _ c.loop-place-test.true c.loop-place.invariant c.in_ok-push.ensures.items

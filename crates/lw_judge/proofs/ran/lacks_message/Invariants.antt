@@ -1,6 +1,0 @@
-use Rattle.std.proofs.Common.{◌≡◌, true}
-use Rattle.lw_judge.specs.RanSent.{runs_enough}
-use Rattle.lw_judge.proofs.ran.lacks_message.Given as goal
-
-abbrev pub invariant-loop-sender : goal.invariant-loop-sender
-invariant-loop-sender l = runs_enough l.sends l.sender l.thread l.ran ≡ true

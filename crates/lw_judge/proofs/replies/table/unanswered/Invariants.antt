@@ -1,5 +1,0 @@
-use Rattle.std.proofs.Common.{◌≡◌, None, replicate}
-use Rattle.lw_judge.proofs.replies.table.unanswered.Given as goal
-
-abbrev pub invariant-loop : goal.invariant-loop
-invariant-loop l = l.answers.items ≡ replicate l.counter None

@@ -1,7 +1,0 @@
-use Rattle.std.proofs.Common.{◌≡◌, ◌++◌, [], ◌∷◌, cond, take}
-use Rattle.lw_judge.specs.declared.tokens.Token.{Token}
-use Rattle.lw_judge.specs.Tokens.{threads_under, is_run, IsAbove}
-use Rattle.lw_judge.proofs.tokens.Runners.add_thread.Given as goal
-
-abbrev pub invariant-loop-tag : goal.invariant-loop-tag
-invariant-loop-tag l = IsAbove l.initial.self l.thread → (w : Token) → threads_under l.self w ≡ threads_under l.initial.self w ++ cond (is_run w (take l.tag-index l.ran)) (l.thread ∷ []) []

@@ -1,0 +1,7 @@
+mod Ats
+mod Completing
+mod Finishing
+mod Fitting
+mod StepTests
+mod ThreadAnswers
+mod Unanswering

@@ -1,0 +1,6 @@
+use Rattle.std.proofs.Common.{map}
+use Rattle.lw_judge_answers.proofs.Ats.{FitsSoFar}
+use Rattle.lw_judge_answers.proofs.thread_answers.unfit_called.Given as goal
+
+abbrev pub invariant-loop-place : goal.invariant-loop-place
+invariant-loop-place l = FitsSoFar l.ran (map (λ x. x.at) l.calleds) l.place l.before

@@ -1,0 +1,4 @@
+pub mod AnsweringAt
+pub mod CompletionsAt
+pub mod DonesAt
+pub mod UnansweredAt

@@ -1,0 +1,15 @@
+mod Added
+mod AllOf
+mod DistinctTokens
+mod RanTests
+mod RunTokens
+mod RunnerLists
+mod SeenTests
+mod SendSteps
+mod SenderCounts
+mod Sending
+pub mod ThreadCounts
+mod TokenLemmas
+mod VisitMarks
+mod VisitResults
+pub mod VisitThreads

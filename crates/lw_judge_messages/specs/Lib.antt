@@ -1,0 +1,5 @@
+pub mod MarksAt
+pub mod RanSent
+pub mod SeenLines
+pub mod SendsAt
+pub mod Tokens

@@ -1,0 +1,5 @@
+pub mod AgainstAt
+pub mod Firsts
+pub mod Folded
+pub mod Holdings
+pub mod LinesOf

@@ -1,0 +1,4 @@
+pub mod Joined
+pub mod LineLemmas
+pub mod Local
+pub mod ReportLocal

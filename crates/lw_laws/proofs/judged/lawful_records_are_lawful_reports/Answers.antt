@@ -1,0 +1,5 @@
+use Rattle.std.proofs.Common.{refl}
+use Rattle.lw_laws.proofs.judged.lawful_records_are_lawful_reports.Goals as goal
+
+pub returns : goal.returns
+returns c = λ r static fits lawful few. record { few = few; the = r; static = static; fits = fits; text = refl; lawful = lawful }

@@ -1,0 +1,11 @@
+mod Streams
+mod CommandEnds
+mod Endings
+mod Statuses
+mod WordExamples
+mod WordNumbers
+mod WordRows
+mod WordRules
+mod WordShapes
+mod WordWalk
+mod WordsRead

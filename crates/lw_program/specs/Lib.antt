@@ -1,0 +1,13 @@
+pub mod Limits
+pub mod Bytes
+pub mod Words
+pub mod Parsed
+pub mod Served
+pub mod Statuses
+pub mod FaultLines
+pub mod Outside
+pub mod Commands
+pub mod Runs
+pub mod Walks
+pub mod Checks
+pub mod Ends

@@ -1,8 +1,0 @@
-use Rattle.std.proofs.Common.{◌≡◌, ◌-◌}
-use Rattle.lw_report.specs.LineParts.{spaced, u32_max}
-use Rattle.lw_report.specs.LineKinds.{results}
-use Rattle.lw_report.proofs.Results.{prefixed}
-use Rattle.lw_report.proofs.read.kinds.threads.Given as goal
-
-abbrev pub invariant-loop : goal.invariant-loop
-invariant-loop l = results (spaced u32_max) l.count l.fn.line ≡ prefixed l.items.items (results (spaced u32_max) (l.count - l.counter) l.rest)

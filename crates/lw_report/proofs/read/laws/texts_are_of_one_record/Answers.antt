@@ -1,5 +1,0 @@
-use Rattle.lw_report.proofs.TextsBack.{one_record}
-use Rattle.lw_report.proofs.read.laws.texts_are_of_one_record.Goals as goal
-
-pub returns : goal.returns
-returns c = one_record

@@ -1,0 +1,11 @@
+pub mod HexTexts
+pub mod LineRanges
+pub mod LineTexts
+pub mod LinesBack
+pub mod Names
+pub mod PartTexts
+pub mod PartsBack
+pub mod Results
+pub mod Said
+pub mod ScriptBack
+pub mod ScriptTexts

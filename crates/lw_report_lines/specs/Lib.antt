@@ -1,0 +1,4 @@
+pub mod LineParts
+pub mod LineKinds
+pub mod Once
+pub mod Ranges
