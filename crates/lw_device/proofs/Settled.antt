@@ -85,6 +85,7 @@ settles e fs x end have only =
     let sg = joined_sum (λ (y : SeatEnd). length y.view.ordinals) (λ y g. length-append y.view.ordinals g.view.ordinals) e fs in
     let sh = joined_sum (λ (y : SeatEnd). held y.view) (λ y g. omega arith) e fs in
     let st : (k : ℕ) → times k j.view.ordinals ≡ total (λ (y : SeatEnd). times k y.view.ordinals) (e ∷ fs) = λ k. joined_sum (λ (y : SeatEnd). times k y.view.ordinals) (λ y g. times_append k y.view.ordinals g.view.ordinals) e fs in
+    let so = joined_sum (λ (y : SeatEnd). y.view.opens) (λ y g. refl) e fs in
     let w = joined_began e fs (sym sb ∙ began) in
     let b = w.4 in
     let g = end.given in
@@ -95,7 +96,7 @@ settles e fs x end have only =
       once = λ k l. sym (st k) ∙ o.once k (omega arith);
       none_else = λ k l. sym (st k) ∙ o.none_else k (omega arith);
       count = omega arith;
-      began = (w.0, w.1, w.2, w.3, (b.begun, (let n = b.count in omega arith), sym b.by ∙ sym end.thread));
+      began = (w.0, w.1, w.2, w.3, (b.begun, (let n = b.count in omega arith), sym b.opens_then ∙ sym (whole.before began) ∙ so, sym b.by ∙ sym end.thread));
       alone = omega arith;
       fired = (let z = end.callbacks in omega arith);
       one_callback = end.callbacks ∙ fires;

@@ -24,8 +24,8 @@ pub struct DeviceEnd {
 ///
 /// The rows, with those that they have taken in, are all, and each device has fired: some row fired it; or some row found it
 /// shut or began, and each row that began it has fired it. Then the ordinals that all rows were given are the numbers below
-/// `given`, each once; one row began, after that many were given, and it alone fired; the callback came once, and nothing is
-/// open. Without memory the rows are dropped.
+/// `given`, each once; one row began, after that many were given, and it alone fired; from the step that began on no row found
+/// the device open; the callback came once, and nothing is open. Without memory the rows are dropped.
 pub fn settle_devices(alloc: Global, rows: Vec<DeviceRow>) -> Result<Vec<DeviceEnd>, NoMemory>
     requires { AreAllRows rows.items }
     ensures count { IfOk result (λ v. All (λ r. length v.items ≡ length r.seats) rows.items) }

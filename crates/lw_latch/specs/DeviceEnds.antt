@@ -50,13 +50,13 @@ HaveFired es =
     ⊎ (Any (λ e. 1 ≤ e.view.found + e.view.begun) es × All (λ e. e.view.begun ≤ e.view.fired) es)
 
 -- what is known of a device once all of its seats are in one hand and it has fired: the ordinals of its channels are all
--- numbers below the count of them, each once; one seat began, was told that count and fired, and no other did; nothing is
--- open
+-- numbers below the count of them, each once; one seat began, was told that count and fired, and no other did; no seat found
+-- the device open from then on; nothing is open
 pub record Settles (es : List SeatEnd) (given began_by callbacks : ℕ) : Type 0 where
   pub once : (k : ℕ) → k < given → total (λ e. times k e.view.ordinals) es ≡ 1
   pub none_else : (k : ℕ) → given ≤ k → total (λ e. times k e.view.ordinals) es ≡ 0
   pub count : total (λ e. length e.view.ordinals) es ≡ given
-  pub began : Any (λ e. (e.view.begun ≡ 1) × (e.view.count ≡ given) × (e.began_by ≡ began_by)) es
+  pub began : Any (λ e. (e.view.begun ≡ 1) × (e.view.count ≡ given) × (e.view.opens_then ≡ total (λ f. f.view.opens) es) × (e.began_by ≡ began_by)) es
   pub alone : total (λ e. e.view.begun) es ≡ 1
   pub fired : total (λ e. e.view.fired) es ≡ callbacks
   pub one_callback : callbacks ≡ 1
