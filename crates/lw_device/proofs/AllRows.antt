@@ -2,8 +2,8 @@
 use Rattle.std.proofs.Common.{◌≡◌, ℕ, zero, suc, ◌<◌, List, [], ◌∷◌, length, map, get_or, refl, sym, ap, subst, ◌∙◌, arith, All}
 use Rattle.std.specs.Prelude.{IfOk, Ok, Err, Result}
 use Rattle.std.proofs.lemmas.List.{length-map, get_or_default}
-use Rattle.std.proofs.lemmas.List.Elements.{All-head, All-tail, All-weaker}
-use Rattle.lw_latch.specs.DeviceEnds.{DeviceLatch, SeatEnd, Settles}
+use Rattle.std.proofs.lemmas.List.Elements.{All-head, All-tail, All-weaker, All-map, All-from_get_or}
+use Rattle.lw_latch.specs.DeviceEnds.{DeviceLatch, FiresOnlyWhatItBegan, SeatEnd, Settles}
 use Rattle.lw_device.specs.declared.settling.DeviceEnd.{DeviceEnd}
 use Rattle.lw_device.specs.Rows.{Row, latches, seat_of, no_seat, seats_of, gathered, gathered_into, AreAllRows, IsEndOf}
 use Rattle.lw_device.proofs.Pairing.{latch_of}
@@ -45,14 +45,21 @@ stands_for_all (r ∷ rs) a k d l =
 
 pub each_settles : (rows : List Row) → AreAllRows rows → (ends : List DeviceEnd) → length ends ≡ length (gathered rows).seats
     → ((d : ℕ) (x : DeviceEnd) → d < length (gathered rows).seats → IsEndOf (seat_of (gathered rows) d) (get_or ends d x))
+    → All (λ r. All FiresOnlyWhatItBegan r.seats) rows
     → (d : ℕ) (x : DeviceEnd) → d < length ends → Settles (seats_of d rows) (get_or ends d x).given (get_or ends d x).thread (get_or ends d x).callbacks
-each_settles [] a ends long each d x l = absurd (let s = a.of_one.some_row in omega arith)
-each_settles (r ∷ rs) a ends long each d x l =
+each_settles [] a ends long each fires d x l = absurd (let s = a.of_one.some_row in omega arith)
+each_settles (r ∷ rs) a ends long each fires d x l =
     let same = length_gathered r rs in
     let P = λ (s : Row). latches s ≡ a.of_one.registry in
     let count = seat_count a.of_one.registry r (All-head P r rs a.of_one.of_registry) in
     let is = one_seat_of r rs a d (omega arith) in
-    settles (seat_of r d) (seats_of d rs) (get_or ends d x) (subst (λ (e : SeatEnd). IsEndOf e (get_or ends d x)) is (each d x (omega arith))) (a.have_fired d (omega arith))
+    let here : (s : Row) → latches s ≡ a.of_one.registry → All FiresOnlyWhatItBegan s.seats → FiresOnlyWhatItBegan (seat_of s d) = λ s of f. (let c = seat_count a.of_one.registry s of in f d no_seat (omega arith)) in
+    let all : All FiresOnlyWhatItBegan (seats_of d (r ∷ rs)) = All-map FiresOnlyWhatItBegan (λ (s : Row). seat_of s d) (r ∷ rs) (λ k s b. here (get_or (r ∷ rs) k s) (a.of_one.of_registry k s b) (fires k s b)) in
+    settles (seat_of r d) (seats_of d rs) (get_or ends d x) (subst (λ (e : SeatEnd). IsEndOf e (get_or ends d x)) is (each d x (omega arith))) (a.have_fired d (omega arith)) all
+
+-- the seats of a row, of each of which it is known what came of its device, fired only what they began
+pub ends_fire : (r : Row) (ends : List DeviceEnd) → ((d : ℕ) (x : DeviceEnd) → d < length r.seats → IsEndOf (seat_of r d) (get_or ends d x)) → All FiresOnlyWhatItBegan r.seats
+ends_fire r ends each = All-from_get_or FiresOnlyWhatItBegan r.seats no_seat (λ d l. (each d (record { given = 0; thread = 0; callbacks = 0 }) l).whole.fired)
 
 pub as_many : (rows : List Row) → AreAllRows rows → (n : ℕ) → n ≡ length (gathered rows).seats → All (λ r. n ≡ length r.seats) rows
 as_many [] a n is k d l = absurd (let s = a.of_one.some_row in omega arith)

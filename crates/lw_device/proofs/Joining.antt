@@ -57,11 +57,12 @@ begun_of e = e.view.begun
 pub record Began (j e : SeatEnd) : Type 0 where
   pub begun : e.view.begun ≡ 1
   pub count : j.view.count ≡ e.view.count
+  pub opens_then : j.view.opens_then ≡ e.view.opens_then
   pub by : j.began_by ≡ e.began_by
 
 -- where one of these began, it is known which, and what it was told
 pub joined_began : (e : SeatEnd) (fs : List SeatEnd) → total begun_of (e ∷ fs) ≡ 1 → (k : ℕ) × (x : SeatEnd) × (k < length (e ∷ fs)) × (get_or (e ∷ fs) k x ≡ x) × Began (joined e fs) x
-joined_began e [] one = (0, e, omega arith, refl, record { begun = omega arith; count = refl; by = refl })
+joined_began e [] one = (0, e, omega arith, refl, record { begun = omega arith; count = refl; opens_then = refl; by = refl })
 joined_began e (g ∷ gs) one =
     let r = joined_began (both_ends e g) gs (omega arith) in
     from r.0 r.1 r.2 r.3 r.4
@@ -76,6 +77,7 @@ joined_began e (g ∷ gs) one =
           record {
             begun = (let z = b.begun in omega arith);
             count = b.count ∙ ap (λ t. if t then g.view.count else e.view.count) (eq-eqb e.view.begun 0 not_e);
+            opens_then = b.opens_then ∙ ap (λ t. if t then g.view.opens_then else e.view.opens_then) (eq-eqb e.view.begun 0 not_e);
             by = b.by ∙ ap (λ t. if t then g.began_by else e.began_by) (eq-eqb e.view.begun 0 not_e);
           },
         ))
@@ -87,6 +89,7 @@ joined_began e (g ∷ gs) one =
           record {
             begun = (let z = b.begun in omega arith);
             count = b.count ∙ ap (λ t. if t then g.view.count else e.view.count) (ne_eqb e.view.begun 0 by_e);
+            opens_then = b.opens_then ∙ ap (λ t. if t then g.view.opens_then else e.view.opens_then) (ne_eqb e.view.begun 0 by_e);
             by = b.by ∙ ap (λ t. if t then g.began_by else e.began_by) (ne_eqb e.view.begun 0 by_e);
           },
         ))

@@ -3,3 +3,4 @@ mod Joining
 mod Settled
 mod AllRows
 mod NewRows
+mod Beginning

@@ -1,5 +1,6 @@
 -- Two rows are joined seat by seat.
-use Rattle.std.proofs.Common.{◌≡◌, ℕ, zero, suc, ◌<◌, List, [], ◌∷◌, length, map, drop, set, get_or, refl, sym, ap, arith}
+use Rattle.std.proofs.Common.{◌≡◌, ℕ, zero, suc, ◌<◌, List, [], ◌∷◌, length, map, drop, set, get_or, refl, sym, ap, arith, All}
+use Rattle.std.proofs.lemmas.List.Elements.{All-nil, All-cons}
 use Rattle.lw_latch.specs.DeviceEnds.{DeviceLatch, SeatEnd, both_ends}
 use Rattle.lw_device.specs.Rows.{both_seats}
 
@@ -49,3 +50,15 @@ next_left zero [] ys x d e = absurd (let l = ap length e in omega arith)
 next_left zero (z ∷ xs) ys x d e = (omega arith, ap (λ l. get_or l 0 x) e, sym (ap (drop 1) e))
 next_left (suc n) [] ys x d e = absurd (let l = ap length e in omega arith)
 next_left (suc n) (z ∷ xs) ys x d e = let r = next_left n xs ys x d e in ((let a = r.0 in omega arith), r.1, r.2)
+
+-- what holds of the one that is joined next, and of those behind it, holds of all that are still to be joined
+pub drop_step : {X : Type 0} (P : X → Type 0) (d : ℕ) (es : List X) (y x : X) → d < length es → P (get_or es d x) → All P (drop (suc d) (set es d y)) → All P (drop d es)
+drop_step P d [] y x l here rest = absurd (omega arith)
+drop_step P zero (e ∷ es) y x l here rest = All-cons P e es here rest
+drop_step P (suc d) (e ∷ es) y x l here rest = drop_step P d es y x (omega arith) here rest
+
+pub none_to_join : (P : SeatEnd → Type 0) (d : ℕ) (es : List SeatEnd) → Matches d es [] → All P (drop d es)
+none_to_join P zero [] m = All-nil P
+none_to_join P zero (e ∷ es) m = absurd (let n = ap length m in omega arith)
+none_to_join P (suc d) [] m = All-nil P
+none_to_join P (suc d) (e ∷ es) m = none_to_join P d es m

@@ -1,7 +1,7 @@
 -- The rows of a registry as callers see them.
 use Rattle.std.specs.Prelude.{◌≡◌, ℕ, ◌+◌, ◌<◌, ◌≤◌, List, [], ◌∷◌, length, map, slice_index_or, slice_set, All}
 use Rattle.lw_base.specs.Totals.{total}
-use Rattle.lw_latch.specs.DeviceWord.{view_given, view_not_given, view_found, view_begun, view_tried, IsWhole}
+use Rattle.lw_latch.specs.DeviceWord.{view_given, view_not_given, view_visiting, view_usable, view_found, view_begun, view_tried, IsWhole}
 use Rattle.lw_latch.specs.DeviceEnds.{DeviceLatch, SeatEnd, new_seat, both_ends, HaveFired}
 use Rattle.lw_device.specs.declared.settling.DeviceEnd.{DeviceEnd}
 
@@ -34,6 +34,9 @@ given ordinal e = record e { view = view_given ordinal e.view }
 abbrev pub not_given : SeatEnd → SeatEnd
 not_given e = record e { view = view_not_given e.view }
 
+abbrev pub usable : SeatEnd → SeatEnd
+usable e = record e { view = view_usable e.view }
+
 abbrev pub looked : SeatEnd → SeatEnd
 looked e = record e { view = record e.view { looks = e.view.looks + 1 } }
 
@@ -41,7 +44,7 @@ abbrev pub found : SeatEnd → SeatEnd
 found e = record e { view = view_found e.view }
 
 abbrev pub visiting : SeatEnd → SeatEnd
-visiting e = record e { view = record e.view { visit = 1 } }
+visiting e = record e { view = view_visiting e.view }
 
 abbrev pub not_visiting : SeatEnd → SeatEnd
 not_visiting e = record e { view = record e.view { visit = 0 } }
@@ -49,8 +52,8 @@ not_visiting e = record e { view = record e.view { visit = 0 } }
 abbrev pub destroyed : SeatEnd → SeatEnd
 destroyed e = record e { view = record e.view { channel = 0 } }
 
-abbrev pub began : ℕ → SeatEnd → SeatEnd
-began given e = record e { began_by = e.number; view = view_begun given e.view }
+abbrev pub began : ℕ → ℕ → SeatEnd → SeatEnd
+began given opens e = record e { began_by = e.number; view = view_begun given opens e.view }
 
 abbrev pub fired : SeatEnd → SeatEnd
 fired e = record e { view = record e.view { fired = 1 } }

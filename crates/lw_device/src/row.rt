@@ -1,8 +1,8 @@
 //! A thread's row of the registry.
 ghost use Rattle.std.specs.Prelude.{◌≡◌, ◌≢◌, ℕ, ◌+◌, ◌^◌, ◌<◌, ◌≤◌, [], ◌∷◌, ◌++◌, length, All, IfOk, IfErr};
 ghost use Rattle.lw_latch.specs.DeviceWord.{KnowsOpen, IsAbove, closing_word, held};
-ghost use Rattle.lw_latch.specs.DeviceEnds.{MayBeTakenIn};
-ghost use Rattle.lw_device.specs.Rows.{latches, seat_of, with_seat, both_rows, given, not_given, looked, found, visiting, not_visiting, destroyed, began, fired, tried};
+ghost use Rattle.lw_latch.specs.DeviceEnds.{FiresOnlyWhatItBegan, MayBeTakenIn};
+ghost use Rattle.lw_device.specs.Rows.{latches, seat_of, with_seat, both_rows, given, not_given, usable, looked, found, visiting, not_visiting, destroyed, began, fired, tried};
 
 use lw_base::NoMemory;
 use lw_latch::{DeviceSeat, Firing, Give, Hold, Look, Shutting};
@@ -57,8 +57,8 @@ impl DeviceRow {
 
     /// Gets this thread's channel of a device, and answers its ordinal: so many were given before it, over all rows.
     ///
-    /// It answers `NoDevice` exactly where the device's number isn't below the count, and `Shut` only where this call's
-    /// own step found the device shut.
+    /// It answers `NoDevice` exactly where the device's number isn't below the count, an ordinal only where this call's own
+    /// step found the device open, and `Shut` only where it found it shut.
     pub fn get(&mut self, device: u32) -> Result<u64, GetRefusal>
         requires channel { device < length self.old.seats → (seat_of self.old device).view.channel ≡ 0 }
         requires room { device < length self.old.seats → (seat_of self.old device).view.gives < 2 ^ 38 }
@@ -81,11 +81,11 @@ impl DeviceRow {
         }
     }
 
-    /// Whether a device is shut. It is one load.
+    /// Whether a device is shut, as one load finds it: `Usable` never comes once an `unregister` has begun.
     pub fn look(&mut self, device: u32) -> Look
         requires { device < length self.old.seats }
         ensures usable { result ≡ Look.Usable →
-            (self.new ≡ with_seat self.old device looked) × KnowsOpen (seat_of self.old device).view }
+            (self.new ≡ with_seat self.old device usable) × KnowsOpen (seat_of self.old device).view }
         ensures shut { result ≡ Look.Shut → self.new ≡ with_seat self.old device (λ e. found (looked e)) }
     {
         self.seats[device as usize].look()
@@ -102,7 +102,8 @@ impl DeviceRow {
 
     /// Begins this thread's visit of a device, unless the device is shut.
     ///
-    /// It answers `Shut` only where this call's own step found the device shut.
+    /// It answers `Held` only where this call's own step found the device open, and so never once an `unregister` has begun;
+    /// `Shut` only where that step found the device shut.
     pub fn begin_visit(&mut self, device: u32) -> Hold
         requires device { device < length self.old.seats }
         requires visit { (seat_of self.old device).view.visit ≡ 0 }
@@ -122,16 +123,20 @@ impl DeviceRow {
         self.seats[device as usize].unhold();
     }
 
-    /// Begins the unregistration of a device, and answers how many channels were given. From then on none is.
+    /// Begins the unregistration of a device, and answers how many channels were given. From then on none is, no visit
+    /// begins, and no look finds the device usable: how often all rows found it open stays what it was at this step.
     ///
     /// It answers `Already` exactly where the step found the device shut. A row that has found the device shut, or has
     /// taken in one that had, is never told that it began.
     pub fn unregister(&mut self, device: u32) -> Result<u64, Already>
         requires { device < length self.old.seats }
         ensures began { IfOk result (λ given.
-            (self.new ≡ with_seat self.old device (began given))
+            (opens : ℕ)
+            × (self.new ≡ with_seat self.old device (began given opens))
             × KnowsOpen (seat_of self.old device).view
-            × (length (seat_of self.old device).view.ordinals ≤ given)) }
+            × (length (seat_of self.old device).view.ordinals ≤ given)
+            × ((seat_of self.old device).view.opens ≤ opens)
+            × IsAbove given (seat_of self.old device).view.ordinals) }
         ensures already { IfErr result (λ _. self.new ≡ with_seat self.old device found) }
     {
         match self.seats[device as usize].shut() {
@@ -147,7 +152,7 @@ impl DeviceRow {
     /// with nothing open and the given count, and carries that word.
     pub fn callback_due(&mut self, device: u32) -> Firing
         requires device { device < length self.old.seats }
-        requires began { ((seat_of self.old device).view.begun ≡ 1)
+        requires began { (1 ≤ (seat_of self.old device).view.begun)
             × ((seat_of self.old device).began_by ≡ (seat_of self.old device).number) }
         ensures fired { result ≡ Firing.Fired →
             (self.new ≡ with_seat self.old device fired)
@@ -161,11 +166,13 @@ impl DeviceRow {
     }
 
     /// Takes in a row that holds no channel, has no visit and has fired each device that it began. From then on this row
-    /// keeps what the other had been given, found, begun and fired.
+    /// keeps what the other had been given, found, begun and fired. Of each of the two it is known that it fired only what
+    /// it began.
     pub fn take_in(&mut self, other: DeviceRow)
         requires registry { latches other ≡ latches self.old }
         requires free { All MayBeTakenIn other.seats }
-        ensures { self.new ≡ both_rows self.old other }
+        ensures both { self.new ≡ both_rows self.old other }
+        ensures only_who_began { All FiresOnlyWhatItBegan self.old.seats × All FiresOnlyWhatItBegan other.seats }
     {
         self.gather(other);
     }
@@ -173,7 +180,8 @@ impl DeviceRow {
     // Takes in any row of the registry, at the end.
     pub(crate) fn gather(&mut self, other: DeviceRow)
         requires { latches other ≡ latches self.old }
-        ensures { self.new ≡ both_rows self.old other }
+        ensures both { self.new ≡ both_rows self.old other }
+        ensures only_who_began { All FiresOnlyWhatItBegan self.old.seats × All FiresOnlyWhatItBegan other.seats }
     {
         let DeviceRow { thread: _, seats } = other;
         let mut device = 0;

@@ -1,7 +1,7 @@
 //! What is known of the devices once all rows are in one hand.
 ghost use Rattle.std.specs.Prelude.{◌≡◌, ℕ, ◌+◌, ◌<◌, ◌≤◌, length, slice_index_or, All, IfOk, IfSome};
 ghost use Rattle.lw_latch.specs.DeviceWord.{IsWhole};
-ghost use Rattle.lw_latch.specs.DeviceEnds.{SeatEnd, Settles};
+ghost use Rattle.lw_latch.specs.DeviceEnds.{FiresOnlyWhatItBegan, SeatEnd, Settles};
 ghost use Rattle.lw_device.specs.Rows.{Row, latches, seat_of, seats_of, gathered, AreOfOne, AreAllRows, IsEndOf};
 
 use crate::row::DeviceRow;
@@ -24,8 +24,8 @@ pub struct DeviceEnd {
 ///
 /// The rows, with those that they have taken in, are all, and each device has fired: some row fired it; or some row found it
 /// shut or began, and each row that began it has fired it. Then the ordinals that all rows were given are the numbers below
-/// `given`, each once; one row began, after that many were given; the callback came once, and nothing is open. Without
-/// memory the rows are dropped.
+/// `given`, each once; one row began, after that many were given, and it alone fired; from the step that began on no row found
+/// the device open; the callback came once, and nothing is open. Without memory the rows are dropped.
 pub fn settle_devices(alloc: Global, rows: Vec<DeviceRow>) -> Result<Vec<DeviceEnd>, NoMemory>
     requires { AreAllRows rows.items }
     ensures count { IfOk result (λ v. All (λ r. length v.items ≡ length r.seats) rows.items) }
@@ -39,7 +39,8 @@ pub fn settle_devices(alloc: Global, rows: Vec<DeviceRow>) -> Result<Vec<DeviceE
 // One row that stands for all of these.
 fn join_rows(rows: Vec<DeviceRow>) -> DeviceRow
     requires { AreOfOne rows.items }
-    ensures { result ≡ gathered rows.items }
+    ensures whole { result ≡ gathered rows.items }
+    ensures only_who_began { All FiresOnlyWhatItBegan result.seats → All (λ r. All FiresOnlyWhatItBegan r.seats) rows.items }
 {
     let mut rows = rows.into_iter();
     let Some(mut whole) = rows.next() else {

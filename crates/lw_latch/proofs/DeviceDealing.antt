@@ -1,5 +1,5 @@
 -- Seats of a device's latch are split off and joined, and what a seat knows that stands for all.
-use Rattle.std.proofs.Common.{◌≡◌, ◌≢◌, ℕ, ◌+◌, ◌/◌, ◌%◌, ◌<◌, ◌≤◌, true, false, true≢false, if◌then◌else◌, eqb, List, [], ◌∷◌, ◌++◌, length, set, refl, sym, ap, ◌∙◌, subst, ⊎_elim, arith, slice_index, eq-eqb, ne_eqb, length-append}
+use Rattle.std.proofs.Common.{◌≡◌, ◌==◌, ◌≢◌, ℕ, ◌+◌, ◌/◌, ◌%◌, ◌<◌, ◌≤◌, true, false, true≢false, if◌then◌else◌, eqb, List, [], ◌∷◌, ◌++◌, length, set, refl, sym, ap, ◌∙◌, subst, ⊎_elim, arith, slice_index, eq-eqb, ne_eqb, length-append}
 use mathlib.Core.Option.{none, some}
 use mathlib.Core.Logic.{dite}
 use native.Mathlib.Decide.{ℕ_discrete}
@@ -8,7 +8,7 @@ use Rattle.atomic_table.specs.Table.{keeps, step, Allows, Splits, Joins}
 use Rattle.atomic_table.proofs.Lists.{at_set, at_snoc, set_else}
 use Rattle.lw_latch.specs.declared.device_view.DeviceView.{DeviceView}
 use Rattle.lw_base.specs.Totals.{total}
-use Rattle.lw_latch.specs.DeviceWord.{seats, given, backing, begun, count, fired, held, opened, times, times_given, device_word, Suits, Tied, idle_view, one_seat, less_one_seat, both_views, spent_device, IsWhole, LearnsAll}
+use Rattle.lw_latch.specs.DeviceWord.{seats, given, backing, begun, count, opens, opens_then, fired, held, opened, times, times_given, device_word, Suits, Tied, idle_view, one_seat, less_one_seat, both_views, spent_device, IsWhole, LearnsAll}
 use Rattle.lw_base.proofs.Totals.{total_set, total_snoc, total_only, others_none, at_le}
 use Rattle.lw_latch.proofs.DeviceMoves.{St, Sat, bounded, reads, moved}
 
@@ -30,6 +30,8 @@ splits all id v some_seats idle s h at =
     let tk = total_set backing s.views id v w at in
     let tb = total_set begun s.views id v w at in
     let tc = total_set count s.views id v w at in
+    let tn = total_set opens s.views id v w at in
+    let tm = total_set opens_then s.views id v w at in
     let tf = total_set fired s.views id v w at in
     let th = total_set held s.views id v w at in
     let to = total_set opened s.views id v w at in
@@ -38,6 +40,8 @@ splits all id v some_seats idle s h at =
     let nk = total_snoc backing vs u in
     let nb = total_snoc begun vs u in
     let nc = total_snoc count vs u in
+    let nn = total_snoc opens vs u in
+    let nm = total_snoc opens_then vs u in
     let nf = total_snoc fired vs u in
     let nh = total_snoc held vs u in
     let no = total_snoc opened vs u in
@@ -58,6 +62,7 @@ splits all id v some_seats idle s h at =
       word = h.word ∙ ap (λ k. k ∷ []) (omega arith);
       one_begun = omega arith;
       settled = λ z. (let o = h.settled (omega arith) in omega arith);
+      before = λ z. (let o = h.before (omega arith) in omega arith);
       quiet = λ z. (let o = h.quiet (omega arith) in omega arith);
       once = λ k l. again k ∙ h.once k (omega arith);
       none_else = λ k l. again k ∙ h.none_else k (omega arith);
@@ -88,7 +93,7 @@ splits all id v some_seats idle s h at =
             few_given = λ _. omega arith;
             none_given = λ z. absurd (omega arith);
             began = omega arith;
-            counts = λ _. refl;
+            counts = λ _. (refl, refl);
             fired_begun = omega arith;
             found_shut = λ _. refl;
             backing_shut = λ _. refl;
@@ -96,11 +101,11 @@ splits all id v some_seats idle s h at =
           (at_snoc vs u y j e));
     }
 
--- of two views of which one began at most, the count that both know is the sum
-sum_of_counts : (v u : DeviceView) → v.begun + u.begun ≤ 1 → (v.begun ≡ 0 → v.count ≡ 0) → (u.begun ≡ 0 → u.count ≡ 0) → (both_views v u).count ≡ v.count + u.count
-sum_of_counts v u once cv cu = dite (ℕ_discrete v.begun 0)
-    (λ not_v. ap (λ b. if b then u.count else v.count) (eq-eqb v.begun 0 not_v) ∙ (let z = cv not_v in omega arith))
-    (λ by_v. ap (λ b. if b then u.count else v.count) (ne_eqb v.begun 0 by_v) ∙ (let z = cu (omega arith) in omega arith))
+-- of two views of which one began at most, what that one keeps is the sum
+known_by_one : (f : DeviceView → ℕ) (v u : DeviceView) → v.begun + u.begun ≤ 1 → (v.begun ≡ 0 → f v ≡ 0) → (u.begun ≡ 0 → f u ≡ 0) → (if v.begun == 0 then f u else f v) ≡ f v + f u
+known_by_one f v u once fv fu = dite (ℕ_discrete v.begun 0)
+    (λ not_v. ap (λ b. if b then f u else f v) (eq-eqb v.begun 0 not_v) ∙ (let z = fv not_v in omega arith))
+    (λ by_v. ap (λ b. if b then f u else f v) (ne_eqb v.begun 0 by_v) ∙ (let z = fu (omega arith) in omega arith))
 
 pub joins : (all id : ℕ) (v : DeviceView) (other : ℕ) (u : DeviceView) → 1 ≤ v.seats → 1 ≤ u.seats → Joins (Tied all) id v other u (both_views v u) spent_device
 joins all id v other u some_v some_u s h at apart there =
@@ -113,6 +118,8 @@ joins all id v other u some_v some_u s h at apart there =
     let tk = total_set backing s.views id v w at in
     let tb = total_set begun s.views id v w at in
     let tc = total_set count s.views id v w at in
+    let tn = total_set opens s.views id v w at in
+    let tm = total_set opens_then s.views id v w at in
     let tf = total_set fired s.views id v w at in
     let th = total_set held s.views id v w at in
     let to = total_set opened s.views id v w at in
@@ -121,6 +128,8 @@ joins all id v other u some_v some_u s h at apart there =
     let nk = total_set backing vs other u spent_device there in
     let nb = total_set begun vs other u spent_device there in
     let nc = total_set count vs other u spent_device there in
+    let nn = total_set opens vs other u spent_device there in
+    let nm = total_set opens_then vs other u spent_device there in
     let nf = total_set fired vs other u spent_device there in
     let nh = total_set held vs other u spent_device there in
     let no = total_set opened vs other u spent_device there in
@@ -131,7 +140,8 @@ joins all id v other u some_v some_u s h at apart there =
     let without = total_set begun s.views id v spent_device at in
     let left = at_le begun (set s.views id spent_device) other u (set_else s.views id other spent_device apart ∙ was) in
     let both_once : v.begun + u.begun ≤ 1 = omega arith in
-    let counted = sum_of_counts v u both_once f.counts g.counts in
+    let counted = known_by_one count v u both_once (λ z. (f.counts z).0) (λ z. (g.counts z).0) in
+    let known = known_by_one opens_then v u both_once (λ z. (f.counts z).1) (λ z. (g.counts z).1) in
     let long = length-append v.ordinals u.ordinals in
     let same : total begun new ≡ total begun s.views = omega arith in
     let again : (k : ℕ) → total (times_given k) new ≡ total (times_given k) s.views =
@@ -142,6 +152,7 @@ joins all id v other u some_v some_u s h at apart there =
       word = h.word ∙ ap (λ k. k ∷ []) (omega arith);
       one_begun = omega arith;
       settled = λ z. (let o = h.settled (omega arith) in omega arith);
+      before = λ z. (let o = h.before (omega arith) in omega arith);
       quiet = λ z. (let o = h.quiet (omega arith) in omega arith);
       once = λ k l. again k ∙ h.once k (omega arith);
       none_else = λ k l. again k ∙ h.none_else k (omega arith);
@@ -153,9 +164,9 @@ joins all id v other u some_v some_u s h at apart there =
             one_visit = omega arith;
             few_gives = omega arith;
             few_given = λ z. absurd (omega arith);
-            none_given = λ _. refl;
+            none_given = λ _. (refl, refl);
             began = omega arith;
-            counts = λ _. refl;
+            counts = λ _. (refl, refl);
             fired_begun = omega arith;
             found_shut = λ _. refl;
             backing_shut = λ _. refl;
@@ -170,7 +181,7 @@ joins all id v other u some_v some_u s h at apart there =
             few_given = λ _. (let p = f.few_given some_v in let q = g.few_given some_u in let r = g.few_gives in omega arith);
             none_given = λ z. absurd (omega arith);
             began = (let p = f.began in let q = g.began in omega arith);
-            counts = λ z. (let p = f.counts (omega arith) in let q = g.counts (omega arith) in omega arith);
+            counts = λ z. (let p = f.counts (omega arith) in let q = g.counts (omega arith) in ((let i = p.0 in let j = q.0 in omega arith), (let i = p.1 in let j = q.1 in omega arith)));
             fired_begun = (let p = f.fired_begun in let q = g.fired_begun in omega arith);
             found_shut = λ z. (let p = f.found_shut z in let q = g.found_shut z in omega arith);
             backing_shut = λ z. (let p = f.backing_shut z in let q = g.backing_shut z in omega arith);
@@ -191,11 +202,13 @@ tells all s id v h at some_seat has_all =
     let to = total_only opened s.views id v at (λ j u apart e. (let z = none j u apart e in let g = h.each j u e in let p = g.one_channel in let q = g.one_visit in omega arith)) in
     let tk = total_only backing s.views id v at (λ j u apart e. (let z = none j u apart e in let p = (h.each j u e).one_channel in omega arith)) in
     let th = total_only held s.views id v at (λ j u apart e. (let z = none j u apart e in let g = h.each j u e in let p = g.one_channel in let q = g.one_visit in omega arith)) in
-    let tg = total_only given s.views id v at (λ j u apart e. (h.each j u e).none_given (none j u apart e)) in
+    let tg = total_only given s.views id v at (λ j u apart e. ((h.each j u e).none_given (none j u apart e)).0) in
+    let tn = total_only opens s.views id v at (λ j u apart e. ((h.each j u e).none_given (none j u apart e)).1) in
     let tb = total_only begun s.views id v at (λ j u apart e. (let z = none j u apart e in let p = (h.each j u e).began in omega arith)) in
-    let tc = total_only count s.views id v at (λ j u apart e. (let z = none j u apart e in let g = h.each j u e in let p = g.began in g.counts (omega arith))) in
+    let tc = total_only count s.views id v at (λ j u apart e. (let z = none j u apart e in let g = h.each j u e in let p = g.began in (g.counts (omega arith)).0)) in
+    let tm = total_only opens_then s.views id v at (λ j u apart e. (let z = none j u apart e in let g = h.each j u e in let p = g.began in (g.counts (omega arith)).1)) in
     let tf = total_only fired s.views id v at (λ j u apart e. (let z = none j u apart e in let g = h.each j u e in let p = g.began in let q = g.fired_begun in omega arith)) in
-    let tt' : (k : ℕ) → total (times_given k) s.views ≡ times k v.ordinals = λ k. total_only (times_given k) s.views id v at (λ j u apart e. times_none k u.ordinals ((h.each j u e).none_given (none j u apart e))) in
+    let tt' : (k : ℕ) → total (times_given k) s.views ≡ times k v.ordinals = λ k. total_only (times_given k) s.views id v at (λ j u apart e. times_none k u.ordinals ((h.each j u e).none_given (none j u apart e)).0) in
     let is = (reads all s h).is in
     let few = (bounded all s h).few_open in
     let once = h.one_begun in (
@@ -206,6 +219,7 @@ tells all s id v h at some_seat has_all =
         found = λ some_found. dite (ℕ_discrete (total begun s.views) 0) (λ z. absurd (let p = f.found_shut z in omega arith)) (λ nz. omega arith);
         begun = omega arith;
         settled = λ z. (let o = h.settled (omega arith) in omega arith);
+        before = λ z. (let o = h.before (omega arith) in omega arith);
         fired = f.fired_begun;
         quiet = λ z. (let o = h.quiet (omega arith) in omega arith);
       },
@@ -217,7 +231,7 @@ learns all slots id me s h _ at small =
       me.0,
       keeps,
       tt,
-      moved all s id me.0 me.0 (slice_index s.words 0) me.1 h at refl refl refl refl refl (omega arith) (λ _. omega arith) (h.each id me.0 at),
+      moved all s id me.0 me.0 (slice_index s.words 0) me.1 h at refl refl refl refl refl refl (omega arith) (λ _. (omega arith, refl)) (h.each id me.0 at),
       (refl, λ some_seat has_all. tells all s id me.0 h at some_seat has_all),
     )
 

@@ -8,7 +8,7 @@ use Rattle.atomic_table.specs.Table.{State, Me, keeps, stepped, opening}
 use Rattle.atomic_table.proofs.Lists.{at_set, at_snoc}
 use Rattle.lw_latch.specs.declared.device_view.DeviceView.{DeviceView}
 use Rattle.lw_base.specs.Totals.{total}
-use Rattle.lw_latch.specs.DeviceWord.{seats, given, backing, begun, count, fired, held, opened, times, times_given, device_word, Suits, Tied, first_view, shut_bit}
+use Rattle.lw_latch.specs.DeviceWord.{seats, given, backing, begun, count, opens, opens_then, fired, held, opened, times, times_given, device_word, Suits, Tied, first_view, shut_bit}
 use Rattle.lw_base.proofs.Totals.{total_set, total_le, total_scaled, total_zero}
 
 abbrev pub St : Type 0
@@ -45,7 +45,7 @@ bounded all s h =
   where
     given_few : (v : DeviceView) → Suits all (total begun s.views) v → given v ≤ 274877906944 * v.seats
     given_few v f = dite (ℕ_discrete v.seats 0)
-        (λ none. (let z = f.none_given none in omega arith))
+        (λ none. (let z = (f.none_given none).0 in omega arith))
         (λ some_seat. (let g = f.few_given (omega arith) in let c = f.few_gives in omega arith))
 
 pub word_found : (all : ℕ) (s : St) → Tied all s → slice_index s.words 0 ≡ device_word s.views
@@ -85,18 +85,20 @@ reads all s h =
 
 -- one view changes in what it has open, or in what it knows
 pub moved : (all : ℕ) (s : St) (id : ℕ) (v w : DeviceView) (n : ℕ) (c : List (ℕ × Unit {0})) → Tied all s → get_elem? s.views id ≡ some v
-    → w.seats ≡ v.seats → w.ordinals ≡ v.ordinals → w.begun ≡ v.begun → w.count ≡ v.count → w.fired ≡ v.fired
+    → w.seats ≡ v.seats → w.ordinals ≡ v.ordinals → w.begun ≡ v.begun → w.count ≡ v.count → w.opens_then ≡ v.opens_then → w.fired ≡ v.fired
     → n + opened v + 262144 * v.backing ≡ device_word s.views + opened w + 262144 * w.backing
-    → (1 ≤ total begun s.views → held w ≤ held v)
+    → (1 ≤ total begun s.views → (held w ≤ held v) × (w.opens ≡ v.opens))
     → Suits all (total begun s.views) w
     → Tied all (stepped s 0 n id c w keeps)
-moved all s id v w n c h at p o be co fi is falls suits =
+moved all s id v w n c h at p o be co ot fi is stays suits =
     let vs : List DeviceView = set s.views id w in
     let ts = total_set seats s.views id v w at in
     let tg = total_set given s.views id v w at in
     let tk = total_set backing s.views id v w at in
     let tb = total_set begun s.views id v w at in
     let tc = total_set count s.views id v w at in
+    let tn = total_set opens s.views id v w at in
+    let tm = total_set opens_then s.views id v w at in
     let tf = total_set fired s.views id v w at in
     let th = total_set held s.views id v w at in
     let to = total_set opened s.views id v w at in
@@ -114,7 +116,8 @@ moved all s id v w n c h at p o be co fi is falls suits =
       word = ap (λ l. set l 0 n) h.word ∙ ap (λ k. k ∷ []) sum;
       one_begun = omega arith;
       settled = λ z. (let old = h.settled (omega arith) in omega arith);
-      quiet = λ z. (let old = h.quiet (omega arith) in let still = falls (omega arith) in omega arith);
+      before = λ z. (let old = h.before (omega arith) in let still = (stays (omega arith)).1 in omega arith);
+      quiet = λ z. (let old = h.quiet (omega arith) in let still = (stays (omega arith)).0 in omega arith);
       once = λ k l. again k ∙ h.once k (omega arith);
       none_else = λ k l. again k ∙ h.none_else k (omega arith);
       each = λ j u e. subst (λ k. Suits all k u) (sym same)
@@ -129,6 +132,7 @@ begins all few =
       word = refl;
       one_begun = omega arith;
       settled = λ z. absurd (omega arith);
+      before = λ z. absurd (omega arith);
       quiet = λ z. absurd (omega arith);
       once = λ k l. absurd (omega arith);
       none_else = λ k l. refl;
@@ -144,9 +148,9 @@ begins all few =
       one_visit = omega arith;
       few_gives = omega arith;
       few_given = λ some_seat. omega arith;
-      none_given = λ _. refl;
+      none_given = λ _. (refl, refl);
       began = omega arith;
-      counts = λ _. refl;
+      counts = λ _. (refl, refl);
       fired_begun = omega arith;
       found_shut = λ _. refl;
       backing_shut = λ _. refl;

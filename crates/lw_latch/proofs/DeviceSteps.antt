@@ -9,7 +9,7 @@ use Rattle.atomic_table.specs.Table.{keeps, step, stepped, Allows}
 use Rattle.atomic_table.proofs.Lists.{at_set}
 use Rattle.lw_latch.specs.declared.device_view.DeviceView.{DeviceView}
 use Rattle.lw_base.specs.Totals.{total}
-use Rattle.lw_latch.specs.DeviceWord.{seats, given, backing, begun, count, fired, held, opened, times, times_given, device_word, Suits, Tied, shut_bit, closing_word, view_given, view_not_given, view_found, view_begun, view_tried, Gives, TakesBack, Holds, LetsGo, Releases, Unholds, LooksAtShut, Begins, TriesToFire}
+use Rattle.lw_latch.specs.DeviceWord.{seats, given, backing, begun, count, opens, opens_then, fired, held, opened, times, times_given, device_word, Suits, Tied, shut_bit, closing_word, view_given, view_not_given, view_visiting, view_usable, view_found, view_begun, view_tried, Gives, TakesBack, Holds, LetsGo, Releases, Unholds, LooksAtShut, Begins, TriesToFire}
 use Rattle.lw_base.proofs.Totals.{total_set, at_le, total_zero}
 use Rattle.lw_latch.proofs.ShutBit.{sets_shut, keeps_shut}
 use Rattle.lw_latch.proofs.DeviceMoves.{St, Sat, bounded, reads, moved}
@@ -50,6 +50,23 @@ changed all shut v ch vi ba le s c w b =
       backing_shut = b;
     }
 
+-- the same, where the latch was found open once more
+found_open : (all shut : ℕ) (v : DeviceView) (l : ℕ) → Suits all shut v → 1 ≤ v.seats → Suits all shut (record v { looks = l; opens = v.opens + 1 })
+found_open all shut v l s some_seat =
+    record {
+      of_latch = s.of_latch;
+      one_channel = s.one_channel;
+      one_visit = s.one_visit;
+      few_gives = s.few_gives;
+      few_given = s.few_given;
+      none_given = λ z. absurd (omega arith);
+      began = s.began;
+      counts = s.counts;
+      fired_begun = s.fired_begun;
+      found_shut = s.found_shut;
+      backing_shut = s.backing_shut;
+    }
+
 -- one more channel is given, of an open latch
 gives_one : (all : ℕ) (s : St) (id : ℕ) (v : DeviceView) (n m : ℕ) (c : List (ℕ × Unit {0})) → Tied all s → get_elem? s.views id ≡ some v
     → total begun s.views ≡ 0 → 1 ≤ v.seats → v.channel ≡ 0 → v.gives < 274877906944 → n ≡ device_word s.views + 262145 → m ≡ total given s.views
@@ -77,6 +94,7 @@ gives_one all s id v n m c h at unshut some_seat free room is next =
       word = ap (λ l. set l 0 n) h.word ∙ ap (λ k. k ∷ []) sum;
       one_begun = omega arith;
       settled = λ z. absurd (omega arith);
+      before = λ z. absurd (omega arith);
       quiet = λ z. absurd (omega arith);
       once = λ k l. (let t = total_set (times_given k) s.views id v w at in let e = times_snoc k m v.ordinals in dite (ℕ_discrete k m)
           (λ here. (let o = h.none_else k (omega arith) in let x = e.0 here in omega arith))
@@ -129,7 +147,7 @@ gives all slots id me some_seat free idle room s h _ at small =
       record (view_not_given v) { backing = 1 },
       keeps,
       tt,
-      moved all s id v (record (view_not_given v) { backing = 1 }) ((n + 262145) % 18446744073709551616) me.1 h at refl refl refl refl refl (omega arith) (λ _. omega arith)
+      moved all s id v (record (view_not_given v) { backing = 1 }) ((n + 262145) % 18446744073709551616) me.1 h at refl refl refl refl refl refl (omega arith) (λ _. (omega arith, refl))
           (changed all (total begun s.views) (view_not_given v) v.channel v.visit 1 v.leaving (grown all (total begun s.views) v (v.gives + 1) v.looks (v.found + 1) v.tries v.seen f (λ z. shut (omega arith)) (omega arith) (omega arith)) (omega arith) f.one_visit (λ z. absurd (shut (omega arith)))),
       ((λ unshut. absurd (shut unshut)), λ _. refl),
     ))
@@ -148,7 +166,7 @@ takes_back all slots id me back s h _ at small =
       record v { backing = 0 },
       keeps,
       tt,
-      moved all s id v (record v { backing = 0 }) ((n + 18446744073709289471) % 18446744073709551616) me.1 h at refl refl refl refl refl (omega arith) (λ _. omega arith)
+      moved all s id v (record v { backing = 0 }) ((n + 18446744073709289471) % 18446744073709551616) me.1 h at refl refl refl refl refl refl (omega arith) (λ _. (omega arith, refl))
           (changed all (total begun s.views) v v.channel v.visit 0 v.leaving f (let c = f.one_channel in omega arith) f.one_visit (λ z. (let b = f.backing_shut z in omega arith))),
       refl,
     )
@@ -165,18 +183,18 @@ holds all slots id me some_seat free idle s h _ at small =
     let f = h.each id v at in
     dite (ℕ_discrete (shut_bit n) 0)
     (λ unshut. (
-      record v { visit = 1 },
+      view_visiting v,
       keeps,
       tt,
-      moved all s id v (record v { visit = 1 }) ((n + 1) % 18446744073709551616) me.1 h at refl refl refl refl refl (omega arith) (λ z. absurd (omega arith))
-          (changed all (total begun s.views) v v.channel 1 v.backing v.leaving f f.one_channel (omega arith) f.backing_shut),
+      moved all s id v (view_visiting v) ((n + 1) % 18446744073709551616) me.1 h at refl refl refl refl refl refl (omega arith) (λ z. absurd (omega arith))
+          (changed all (total begun s.views) (record v { opens = v.opens + 1 }) v.channel 1 v.backing v.leaving (found_open all (total begun s.views) v v.looks f some_seat) f.one_channel (omega arith) f.backing_shut),
       ((λ _. (refl, (f.found_shut (omega arith), (let b = at_le begun s.views id v at in omega arith)))), λ shut. absurd (shut unshut)),
     ))
     (λ shut. (
       record (view_found v) { leaving = 1 },
       keeps,
       tt,
-      moved all s id v (record (view_found v) { leaving = 1 }) ((n + 1) % 18446744073709551616) me.1 h at refl refl refl refl refl (omega arith) (λ _. omega arith)
+      moved all s id v (record (view_found v) { leaving = 1 }) ((n + 1) % 18446744073709551616) me.1 h at refl refl refl refl refl refl (omega arith) (λ _. (omega arith, refl))
           (changed all (total begun s.views) (view_found v) v.channel v.visit v.backing 1 (grown all (total begun s.views) v v.gives v.looks (v.found + 1) v.tries v.seen f (λ z. shut (omega arith)) (omega arith) f.few_gives) f.one_channel (omega arith) (λ z. absurd (shut (omega arith)))),
       ((λ unshut. absurd (shut unshut)), λ _. refl),
     ))
@@ -194,7 +212,7 @@ lets_go all slots id me leaves s h _ at small =
       record v { leaving = 0 },
       keeps,
       tt,
-      moved all s id v (record v { leaving = 0 }) ((n + 18446744073709551615) % 18446744073709551616) me.1 h at refl refl refl refl refl (omega arith) (λ _. omega arith)
+      moved all s id v (record v { leaving = 0 }) ((n + 18446744073709551615) % 18446744073709551616) me.1 h at refl refl refl refl refl refl (omega arith) (λ _. (omega arith, refl))
           (changed all (total begun s.views) v v.channel v.visit v.backing 0 f f.one_channel (let c = f.one_visit in omega arith) (λ z. (let b = f.backing_shut z in omega arith))),
       refl,
     )
@@ -212,7 +230,7 @@ releases all slots id me has s h _ at small =
       record v { channel = 0 },
       keeps,
       tt,
-      moved all s id v (record v { channel = 0 }) ((n + 18446744073709551615) % 18446744073709551616) me.1 h at refl refl refl refl refl (omega arith) (λ _. omega arith)
+      moved all s id v (record v { channel = 0 }) ((n + 18446744073709551615) % 18446744073709551616) me.1 h at refl refl refl refl refl refl (omega arith) (λ _. (omega arith, refl))
           (changed all (total begun s.views) v 0 v.visit v.backing v.leaving f (let c = f.one_channel in omega arith) f.one_visit f.backing_shut),
       refl,
     )
@@ -230,60 +248,61 @@ unholds all slots id me has s h _ at small =
       record v { visit = 0 },
       keeps,
       tt,
-      moved all s id v (record v { visit = 0 }) ((n + 18446744073709551615) % 18446744073709551616) me.1 h at refl refl refl refl refl (omega arith) (λ _. omega arith)
+      moved all s id v (record v { visit = 0 }) ((n + 18446744073709551615) % 18446744073709551616) me.1 h at refl refl refl refl refl refl (omega arith) (λ _. (omega arith, refl))
           (changed all (total begun s.views) v v.channel 0 v.backing v.leaving f f.one_channel (let c = f.one_visit in omega arith) f.backing_shut),
       refl,
     )
 
-pub looks : (all slots id : ℕ) (me : Sat) → Allows (Tied all) slots id me 0 (λ n. n) (LooksAtShut (step slots 0 0 0 none) me)
-looks all slots id me s h _ at small =
+pub looks : (all slots id : ℕ) (me : Sat) → 1 ≤ me.0.seats → Allows (Tied all) slots id me 0 (λ n. n) (LooksAtShut (step slots 0 0 0 none) me)
+looks all slots id me some_seat s h _ at small =
     let v = me.0 in
     let n : ℕ = slice_index s.words 0 in
     let r = reads all s h in
     let is = r.is in
     let bit = r.bit in
     let f = h.each id v at in
-    let w : DeviceView = record v { looks = v.looks + 1; found = v.found + shut_bit n } in (
-      w,
+    dite (ℕ_discrete (shut_bit n) 0)
+    (λ unshut. (
+      view_usable v,
       keeps,
       tt,
-      moved all s id v w n me.1 h at refl refl refl refl refl (omega arith) (λ _. omega arith)
-          (record {
-            of_latch = f.of_latch;
-            one_channel = f.one_channel;
-            one_visit = f.one_visit;
-            few_gives = f.few_gives;
-            few_given = f.few_given;
-            none_given = f.none_given;
-            began = f.began;
-            counts = f.counts;
-            fired_begun = f.fired_begun;
-            found_shut = λ z. (let o = f.found_shut z in omega arith);
-            backing_shut = f.backing_shut;
-          }),
-      (refl, λ unshut. (f.found_shut (omega arith), (let b = at_le begun s.views id v at in omega arith))),
-    )
+      moved all s id v (view_usable v) n me.1 h at refl refl refl refl refl refl (omega arith) (λ z. absurd (omega arith))
+          (found_open all (total begun s.views) v (v.looks + 1) f some_seat),
+      ((λ _. (refl, (f.found_shut (omega arith), (let b = at_le begun s.views id v at in omega arith)))), λ shut. absurd (shut unshut)),
+    ))
+    (λ shut. (
+      record (view_found v) { looks = v.looks + 1 },
+      keeps,
+      tt,
+      moved all s id v (record (view_found v) { looks = v.looks + 1 }) n me.1 h at refl refl refl refl refl refl (omega arith) (λ _. (omega arith, refl))
+          (grown all (total begun s.views) v v.gives (v.looks + 1) (v.found + 1) v.tries v.seen f (λ z. shut (omega arith)) (omega arith) f.few_gives),
+      ((λ unshut. absurd (shut unshut)), λ _. refl),
+    ))
 
 -- an open latch is shut
-begins_one : (all : ℕ) (s : St) (id : ℕ) (v : DeviceView) (n m : ℕ) (c : List (ℕ × Unit {0})) → Tied all s → get_elem? s.views id ≡ some v
-    → total begun s.views ≡ 0 → 1 ≤ v.seats → n ≡ device_word s.views + 65536 → m ≡ total given s.views
-    → Tied all (stepped s 0 n id c (view_begun m v) keeps)
-begins_one all s id v n m c h at unshut some_seat is told =
-    let w : DeviceView = view_begun m v in
+begins_one : (all : ℕ) (s : St) (id : ℕ) (v : DeviceView) (n m o : ℕ) (c : List (ℕ × Unit {0})) → Tied all s → get_elem? s.views id ≡ some v
+    → total begun s.views ≡ 0 → 1 ≤ v.seats → n ≡ device_word s.views + 65536 → m ≡ total given s.views → o ≡ total opens s.views
+    → Tied all (stepped s 0 n id c (view_begun m o v) keeps)
+begins_one all s id v n m o c h at unshut some_seat is told often =
+    let w : DeviceView = view_begun m o v in
     let vs : List DeviceView = set s.views id w in
     let ts = total_set seats s.views id v w at in
     let tg = total_set given s.views id v w at in
     let tk = total_set backing s.views id v w at in
     let tb = total_set begun s.views id v w at in
     let tc = total_set count s.views id v w at in
+    let tn = total_set opens s.views id v w at in
+    let tm = total_set opens_then s.views id v w at in
     let tf = total_set fired s.views id v w at in
     let th = total_set held s.views id v w at in
     let to = total_set opened s.views id v w at in
     let a = h.all_seats in
     let mine = at_le begun s.views id v at in
     let unfired = (bounded all s h).fired_begun in
-    let uncounted : total count s.views ≡ 0 = total_zero count s.views (λ i u e. (h.each i u e).counts (let b = at_le begun s.views i u e in omega arith)) in
+    let uncounted : total count s.views ≡ 0 = total_zero count s.views (λ i u e. ((h.each i u e).counts (let b = at_le begun s.views i u e in omega arith)).0) in
     let mine_uncounted = at_le count s.views id v at in
+    let unknown : total opens_then s.views ≡ 0 = total_zero opens_then s.views (λ i u e. ((h.each i u e).counts (let b = at_le begun s.views i u e in omega arith)).1) in
+    let mine_unknown = at_le opens_then s.views id v at in
     let f = h.each id v at in
     let fb = f.fired_begun in
     let sum : n ≡ device_word vs = omega arith in
@@ -293,6 +312,7 @@ begins_one all s id v n m c h at unshut some_seat is told =
       word = ap (λ l. set l 0 n) h.word ∙ ap (λ k. k ∷ []) sum;
       one_begun = omega arith;
       settled = λ _. omega arith;
+      before = λ _. omega arith;
       quiet = λ z. absurd (omega arith);
       once = λ k l. (let t = total_set (times_given k) s.views id v w at in let o = h.once k (omega arith) in omega arith);
       none_else = λ k l. (let t = total_set (times_given k) s.views id v w at in let o = h.none_else k (omega arith) in omega arith);
@@ -329,24 +349,24 @@ shuts all slots id me some_seat s h _ at small =
     let mine = at_le begun s.views id v at in
     dite (ℕ_discrete (shut_bit n) 0)
     (λ unshut. (
-      view_begun (n / 262144) v,
+      view_begun (n / 262144) (total opens s.views) v,
       keeps,
       tt,
-      begins_one all s id v (bit_or n 65536) (n / 262144) me.1 h at (omega arith) some_seat (let o = sets_shut n unshut in omega arith) (r.unshut (omega arith)),
-      ((λ _. (refl, (f.found_shut (omega arith), omega arith), (let g = r.unshut (omega arith) in let t = at_le given s.views id v at in omega arith))), λ shut. absurd (shut unshut)),
+      begins_one all s id v (bit_or n 65536) (n / 262144) (total opens s.views) me.1 h at (omega arith) some_seat (let o = sets_shut n unshut in omega arith) (r.unshut (omega arith)) refl,
+      ((λ _. (total opens s.views, refl, (f.found_shut (omega arith), omega arith), (let g = r.unshut (omega arith) in let t = at_le given s.views id v at in omega arith), at_le opens s.views id v at, λ k l. (let z = h.none_else k (let g = r.unshut (omega arith) in omega arith) in let t = at_le (times_given k) s.views id v at in omega arith))), λ shut. absurd (shut unshut)),
     ))
     (λ shut. (
       view_found v,
       keeps,
       tt,
-      moved all s id v (view_found v) (bit_or n 65536) me.1 h at refl refl refl refl refl (let o = keeps_shut n shut in omega arith) (λ _. omega arith)
+      moved all s id v (view_found v) (bit_or n 65536) me.1 h at refl refl refl refl refl refl (let o = keeps_shut n shut in omega arith) (λ _. (omega arith, refl))
           (grown all (total begun s.views) v v.gives v.looks (v.found + 1) v.tries v.seen f (λ z. shut (omega arith)) (omega arith) f.few_gives),
       ((λ unshut. absurd (shut unshut)), λ _. refl),
     ))
 
 -- a shut latch with nothing open fires
 fires_once : (all : ℕ) (s : St) (id : ℕ) (v : DeviceView) (n m : ℕ) (c : List (ℕ × Unit {0})) → Tied all s → get_elem? s.views id ≡ some v
-    → v.begun ≡ 1 → device_word s.views ≡ closing_word m → n ≡ device_word s.views + 131072
+    → 1 ≤ v.begun → device_word s.views ≡ closing_word m → n ≡ device_word s.views + 131072
     → Tied all (stepped s 0 n id c (record v { fired = 1 }) keeps)
 fires_once all s id v n m c h at began closing is =
     let w : DeviceView = record v { fired = 1 } in
@@ -356,6 +376,8 @@ fires_once all s id v n m c h at began closing is =
     let tk = total_set backing s.views id v w at in
     let tb = total_set begun s.views id v w at in
     let tc = total_set count s.views id v w at in
+    let tn = total_set opens s.views id v w at in
+    let tm = total_set opens_then s.views id v w at in
     let tf = total_set fired s.views id v w at in
     let th = total_set held s.views id v w at in
     let to = total_set opened s.views id v w at in
@@ -379,6 +401,7 @@ fires_once all s id v n m c h at began closing is =
       word = ap (λ l. set l 0 n) h.word ∙ ap (λ k. k ∷ []) sum;
       one_begun = omega arith;
       settled = λ z. (let o = h.settled (omega arith) in omega arith);
+      before = λ z. (let o = h.before (omega arith) in omega arith);
       quiet = λ _. omega arith;
       once = λ k l. (let t = total_set (times_given k) s.views id v w at in let o = h.once k (omega arith) in omega arith);
       none_else = λ k l. (let t = total_set (times_given k) s.views id v w at in let o = h.none_else k (omega arith) in omega arith);
@@ -390,7 +413,7 @@ fires_once all s id v n m c h at began closing is =
           (at_set s.views id j w u e));
     }
 
-pub fires : (all slots id : ℕ) (me : Sat) (m old new : ℕ) → me.0.begun ≡ 1 → old ≡ closing_word m → new ≡ old + 131072
+pub fires : (all slots id : ℕ) (me : Sat) (m old new : ℕ) → 1 ≤ me.0.begun → old ≡ closing_word m → new ≡ old + 131072
     → Allows (Tied all) slots id me 0 (λ n. either (eqb n old) new n) (TriesToFire (step slots 0 old new none) me)
 fires all slots id me m old new began is_old is_new s h _ at small =
     let v = me.0 in
@@ -420,7 +443,7 @@ fires all slots id me m old new began is_old is_new s h _ at small =
       keeps,
       tt,
       subst (λ b. Tied all (stepped s 0 (either b new n) id me.1 (view_tried n v) keeps)) (sym (ne_eqb n old miss))
-          (moved all s id v (view_tried n v) n me.1 h at refl refl refl refl refl (omega arith) (λ _. omega arith)
+          (moved all s id v (view_tried n v) n me.1 h at refl refl refl refl refl refl (omega arith) (λ _. (omega arith, refl))
           (grown all (total begun s.views) v v.gives v.looks v.found (v.tries + 1) n (h.each id v at) (λ z. omega arith) (omega arith) ((h.each id v at).few_gives))),
       ((λ hit. absurd (miss hit)), λ _. refl),
     ))

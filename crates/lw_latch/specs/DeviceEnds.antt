@@ -33,26 +33,32 @@ pub record AreNewSeats (all : ℕ) (es : List SeatEnd) : Type 0 where
 abbrev pub both_ends : SeatEnd → SeatEnd → SeatEnd
 both_ends e f = record e { began_by = if e.view.begun == 0 then f.began_by else e.began_by; view = both_views e.view f.view }
 
+-- the seat has fired only where it, or a seat that it took in, began
+abbrev pub FiresOnlyWhatItBegan : SeatEnd → Type 0
+FiresOnlyWhatItBegan e = e.view.fired ≤ e.view.begun
+
 -- the seat has no channel and no visit, and has fired where it began: it may be taken in
 pub record MayBeTakenIn (e : SeatEnd) : Type 0 where
   pub no_channel : e.view.channel ≡ 0
   pub no_visit : e.view.visit ≡ 0
-  pub has_fired : e.view.begun ≡ 1 → e.view.fired ≡ 1
+  pub has_fired : e.view.begun ≤ e.view.fired
 
 -- the device is known to have fired: by a seat that fired; or since one found it shut or began, and each that began fired
 abbrev pub HaveFired : List SeatEnd → Type 0
 HaveFired es =
-    (Any (λ e. e.view.fired ≡ 1) es)
-    ⊎ (Any (λ e. 1 ≤ e.view.found + e.view.begun) es × All (λ e. e.view.begun ≡ 1 → e.view.fired ≡ 1) es)
+    (Any (λ e. 1 ≤ e.view.fired) es)
+    ⊎ (Any (λ e. 1 ≤ e.view.found + e.view.begun) es × All (λ e. e.view.begun ≤ e.view.fired) es)
 
 -- what is known of a device once all of its seats are in one hand and it has fired: the ordinals of its channels are all
--- numbers below the count of them, each once; one seat began, which was told that count and fired; nothing is open
+-- numbers below the count of them, each once; one seat began, was told that count and fired, and no other did; no seat found
+-- the device open from then on; nothing is open
 pub record Settles (es : List SeatEnd) (given began_by callbacks : ℕ) : Type 0 where
   pub once : (k : ℕ) → k < given → total (λ e. times k e.view.ordinals) es ≡ 1
   pub none_else : (k : ℕ) → given ≤ k → total (λ e. times k e.view.ordinals) es ≡ 0
   pub count : total (λ e. length e.view.ordinals) es ≡ given
-  pub began : Any (λ e. (e.view.begun ≡ 1) × (e.view.count ≡ given) × (e.began_by ≡ began_by)) es
+  pub began : Any (λ e. (e.view.begun ≡ 1) × (e.view.count ≡ given) × (e.view.opens_then ≡ total (λ f. f.view.opens) es) × (e.began_by ≡ began_by)) es
   pub alone : total (λ e. e.view.begun) es ≡ 1
   pub fired : total (λ e. e.view.fired) es ≡ callbacks
   pub one_callback : callbacks ≡ 1
+  pub by_it : All (λ e. e.view.fired ≡ e.view.begun) es
   pub nothing_open : All (λ e. held e.view ≡ 0) es

@@ -23,6 +23,12 @@ begun v = v.begun
 abbrev pub count : DeviceView → ℕ
 count v = v.count
 
+abbrev pub opens : DeviceView → ℕ
+opens v = v.opens
+
+abbrev pub opens_then : DeviceView → ℕ
+opens_then v = v.opens_then
+
 abbrev pub fired : DeviceView → ℕ
 fired v = v.fired
 
@@ -56,23 +62,25 @@ pub record Suits (all shut : ℕ) (v : DeviceView) : Type 0 where
   -- each seat calls `give` at most 2^38 times
   pub few_gives : v.gives ≤ 274877906944
   pub few_given : 1 ≤ v.seats → length v.ordinals + 274877906944 ≤ v.gives + 274877906944 * v.seats
-  pub none_given : v.seats ≡ 0 → length v.ordinals ≡ 0
-  -- who began has a count, and who fired began
+  -- a view that was joined away has nothing
+  pub none_given : v.seats ≡ 0 → (length v.ordinals ≡ 0) × (v.opens ≡ 0)
+  -- who began alone keeps what was so then, and who fired began
   pub began : v.begun ≤ v.seats
-  pub counts : v.begun ≡ 0 → v.count ≡ 0
+  pub counts : v.begun ≡ 0 → (v.count ≡ 0) × (v.opens_then ≡ 0)
   pub fired_begun : v.fired ≤ v.begun
   -- the latch was found shut only where it is, and before it is nobody takes anything back
   pub found_shut : shut ≡ 0 → v.found ≡ 0
   pub backing_shut : shut ≡ 0 → v.backing + v.leaving ≡ 0
 
 -- the rule: the word is what the views make; the ordinals of the channels given are 0, 1, 2, .., each once; one seat at
--- most shuts the latch, and from then on nothing is given; it fires once, with nothing open
+-- most shuts the latch; from then on nothing is given, and nobody finds it open; it fires once, with nothing open
 pub record Tied (all : ℕ) (s : State (Unit {0}) DeviceView) : Type 0 where
   pub few : all ≤ 127
   pub all_seats : total seats s.views ≡ all
   pub word : s.words ≡ device_word s.views ∷ []
   pub one_begun : total begun s.views ≤ 1
   pub settled : 1 ≤ total begun s.views → total given s.views ≡ total count s.views
+  pub before : 1 ≤ total begun s.views → total opens s.views ≡ total opens_then s.views
   pub quiet : 1 ≤ total fired s.views → total held s.views ≡ 0
   pub once : (k : ℕ) → k < total given s.views → total (times_given k) s.views ≡ 1
   pub none_else : (k : ℕ) → total given s.views ≤ k → total (times_given k) s.views ≡ 0
@@ -80,7 +88,7 @@ pub record Tied (all : ℕ) (s : State (Unit {0}) DeviceView) : Type 0 where
 
 -- a view that has done nothing, of a latch of so many seats, which stands for some of them
 abbrev pub idle_view : ℕ → ℕ → DeviceView
-idle_view all seats = record { all = all; seats = seats; ordinals = []; gives = 0; channel = 0; visit = 0; backing = 0; leaving = 0; looks = 0; found = 0; begun = 0; count = 0; fired = 0; tries = 0; seen = 0 }
+idle_view all seats = record { all = all; seats = seats; ordinals = []; gives = 0; channel = 0; visit = 0; backing = 0; leaving = 0; looks = 0; found = 0; opens = 0; begun = 0; count = 0; opens_then = 0; fired = 0; tries = 0; seen = 0 }
 
 -- a new latch's one view stands for all seats
 abbrev pub first_view : ℕ → DeviceView
@@ -110,8 +118,10 @@ both_views v w = record {
   leaving = v.leaving + w.leaving;
   looks = v.looks;
   found = v.found + w.found;
+  opens = v.opens + w.opens;
   begun = v.begun + w.begun;
   count = if v.begun == 0 then w.count else v.count;
+  opens_then = if v.begun == 0 then w.opens_then else v.opens_then;
   fired = v.fired + w.fired;
   tries = v.tries;
   seen = v.seen;
@@ -132,16 +142,23 @@ abbrev pub IsAbove : ℕ → List ℕ → Type 0
 IsAbove ordinal ks = (k : ℕ) → ordinal ≤ k → times k ks ≡ 0
 
 abbrev pub view_given : ℕ → DeviceView → DeviceView
-view_given ordinal v = record v { ordinals = v.ordinals ++ ordinal ∷ []; gives = v.gives + 1; channel = 1 }
+view_given ordinal v = record v { ordinals = v.ordinals ++ ordinal ∷ []; gives = v.gives + 1; channel = 1; opens = v.opens + 1 }
 
 abbrev pub view_not_given : DeviceView → DeviceView
 view_not_given v = record v { gives = v.gives + 1; found = v.found + 1 }
 
+abbrev pub view_visiting : DeviceView → DeviceView
+view_visiting v = record v { visit = 1; opens = v.opens + 1 }
+
+abbrev pub view_usable : DeviceView → DeviceView
+view_usable v = record v { looks = v.looks + 1; opens = v.opens + 1 }
+
 abbrev pub view_found : DeviceView → DeviceView
 view_found v = record v { found = v.found + 1 }
 
-abbrev pub view_begun : ℕ → DeviceView → DeviceView
-view_begun given v = record v { begun = 1; count = given }
+-- the latch was shut; so many channels had been given, and so often had it been found open
+abbrev pub view_begun : ℕ → ℕ → DeviceView → DeviceView
+view_begun given opens v = record v { begun = 1; count = given; opens_then = opens }
 
 abbrev pub view_tried : ℕ → DeviceView → DeviceView
 view_tried seen v = record v { tries = v.tries + 1; seen = seen }
@@ -166,7 +183,7 @@ TakesBack step old word new = new ≡ (record old.0 { backing = 0 }, old.1)
 
 abbrev pub Holds : Step (Unit {0}) → Sat → ℕ → Sat → Type 0
 Holds step old word new =
-    (shut_bit word ≡ 0 → (new ≡ (record old.0 { visit = 1 }, old.1)) × KnowsOpen old.0)
+    (shut_bit word ≡ 0 → (new ≡ (view_visiting old.0, old.1)) × KnowsOpen old.0)
     × (shut_bit word ≢ 0 → new ≡ (record (view_found old.0) { leaving = 1 }, old.1))
 
 abbrev pub LetsGo : Step (Unit {0}) → Sat → ℕ → Sat → Type 0
@@ -180,12 +197,12 @@ Unholds step old word new = new ≡ (record old.0 { visit = 0 }, old.1)
 
 abbrev pub LooksAtShut : Step (Unit {0}) → Sat → ℕ → Sat → Type 0
 LooksAtShut step old word new =
-    (new ≡ (record old.0 { looks = old.0.looks + 1; found = old.0.found + shut_bit word }, old.1))
-    × (shut_bit word ≡ 0 → KnowsOpen old.0)
+    (shut_bit word ≡ 0 → (new ≡ (view_usable old.0, old.1)) × KnowsOpen old.0)
+    × (shut_bit word ≢ 0 → new ≡ (record (view_found old.0) { looks = old.0.looks + 1 }, old.1))
 
 abbrev pub Begins : Step (Unit {0}) → Sat → ℕ → Sat → Type 0
 Begins step old word new =
-    (shut_bit word ≡ 0 → (new ≡ (view_begun (word / 262144) old.0, old.1)) × KnowsOpen old.0 × (given old.0 ≤ word / 262144))
+    (shut_bit word ≡ 0 → (often : ℕ) × (new ≡ (view_begun (word / 262144) often old.0, old.1)) × KnowsOpen old.0 × (given old.0 ≤ word / 262144) × (old.0.opens ≤ often) × IsAbove (word / 262144) old.0.ordinals)
     × (shut_bit word ≢ 0 → new ≡ (view_found old.0, old.1))
 
 abbrev pub TriesToFire : Step (Unit {0}) → Sat → ℕ → Sat → Type 0
@@ -204,8 +221,9 @@ pub record IsWhole (v : DeviceView) : Type 0 where
   -- who found the latch shut was right, and one began at most
   pub found : 1 ≤ v.found → v.begun ≡ 1
   pub begun : v.begun ≤ 1
-  -- from the step that began on nothing was given
+  -- from the step that began on nothing was given, and nobody found the latch open
   pub settled : v.begun ≡ 1 → length v.ordinals ≡ v.count
+  pub before : v.begun ≡ 1 → v.opens ≡ v.opens_then
   -- it fired at most once, with nothing open
   pub fired : v.fired ≤ v.begun
   pub quiet : v.fired ≡ 1 → held v ≡ 0

@@ -1,7 +1,7 @@
 //! The latch of a device: who holds a channel or has a visit, and that none is given once it is shut.
 ghost use Rattle.std.specs.Prelude.{◌≡◌, ◌≢◌, ℕ, ◌+◌, ◌-◌, ◌*◌, ◌^◌, ◌<◌, ◌≤◌, true, false, length, IfOk};
-ghost use Rattle.lw_latch.specs.DeviceWord.{first_view, idle_view, view_given, view_not_given, view_found, view_begun, view_tried, closing_word, KnowsOpen, IsAbove, IsWhole, held};
-ghost use Rattle.lw_latch.specs.DeviceEnds.{DeviceLatch, AreNewSeats, MayBeTakenIn, new_seat, both_ends};
+ghost use Rattle.lw_latch.specs.DeviceWord.{first_view, idle_view, view_given, view_not_given, view_visiting, view_usable, view_found, view_begun, view_tried, closing_word, KnowsOpen, IsAbove, IsWhole, held};
+ghost use Rattle.lw_latch.specs.DeviceEnds.{DeviceLatch, AreNewSeats, FiresOnlyWhatItBegan, MayBeTakenIn, new_seat, both_ends};
 
 use crate::device_view::{
     Beginning, DeviceSeats, DeviceTable, DeviceView, Giving, Holding, LearningAll, LettingGo,
@@ -114,6 +114,7 @@ impl Model for DeviceSeat {
         × (s.seat.me.0.leaving ≡ 0)
         × (s.began ≡ false → s.seat.me.0.begun ≡ 0)
         × (s.began ≡ true → 1 ≤ s.seat.me.0.begun)
+        × (s.seat.me.0.fired ≤ s.seat.me.0.begun)
         × (s.given ≡ s.seat.me.0.count)
         × (s.given < 2 ^ 46) };
 }
@@ -123,7 +124,8 @@ impl DeviceSeat {
     ///
     /// The channel's ordinal is the number of channels that were given before it, over all seats. A seat that finds the
     /// latch shut takes its sum back in a second step; between the two it counts as open, but a shut latch gives nothing.
-    /// `Shut` comes only where this call's own step found the shut bit, and neither answer to `give` comes before.
+    /// `Given` comes only where this call's own step found the latch open, and so never once a `shut` has answered `Began`;
+    /// `Shut` comes only where that step found the shut bit.
     pub fn give(&mut self) -> Give
         requires channel { self.old.view.channel ≡ 0 }
         requires room { self.old.view.gives < 2 ^ 38 }
@@ -148,10 +150,11 @@ impl DeviceSeat {
         Give::Shut
     }
 
-    /// Whether the latch is shut. It is one load.
+    /// Whether the latch is shut. It is one load, and the answer is what it found: `Usable` never comes once a `shut` has
+    /// answered `Began`.
     pub fn look(&mut self) -> Look
         ensures usable { result ≡ Look.Usable →
-            (self.new ≡ record self.old { view = record self.old.view { looks = self.old.view.looks + 1 } })
+            (self.new ≡ record self.old { view = view_usable self.old.view })
             × KnowsOpen self.old.view }
         ensures shut { result ≡ Look.Shut →
             self.new ≡ record self.old {
@@ -169,12 +172,13 @@ impl DeviceSeat {
 
     /// Begins a visit, in one step, unless the latch is shut. A seat has at most one.
     ///
-    /// A seat that finds the latch shut takes its count back in a second step. `Shut` comes only where this call's own
-    /// step found the shut bit.
+    /// A seat that finds the latch shut takes its count back in a second step. `Held` comes only where this call's own step
+    /// found the latch open, and so never once a `shut` has answered `Began`; `Shut` comes only where that step found the
+    /// shut bit.
     pub fn hold(&mut self) -> Hold
         requires { self.old.view.visit ≡ 0 }
         ensures held { result ≡ Hold.Held →
-            (self.new ≡ record self.old { view = record self.old.view { visit = 1 } }) × KnowsOpen self.old.view }
+            (self.new ≡ record self.old { view = view_visiting self.old.view }) × KnowsOpen self.old.view }
         ensures shut { result ≡ Hold.Shut → self.new ≡ record self.old { view = view_found self.old.view } }
     {
         let found = self
@@ -210,18 +214,22 @@ impl DeviceSeat {
             .fetch_sub::<Unholding>(&mut self.seat, 0, OPEN);
     }
 
-    /// Shuts the latch, in one step. From then on no seat is given a channel and no visit begins.
+    /// Shuts the latch, in one step. From then on no seat is given a channel, no visit begins, and no look finds it usable:
+    /// what all seats were given, and how often they found the latch open, stays what it was at this step.
     ///
     /// `Already` comes exactly where the word found was shut. A seat that knows the latch to be shut, by its own calls or
     /// by those of a seat that it took in, is never told `Began`.
     pub fn shut(&mut self) -> Shutting
         ensures began { (given : ℕ) → result ≡ Shutting.Began given →
-            (self.new ≡ record self.old {
+            (opens : ℕ)
+            × (self.new ≡ record self.old {
               began_by = self.old.number;
-              view = view_begun given self.old.view;
+              view = view_begun given opens self.old.view;
             })
             × KnowsOpen self.old.view
-            × (length self.old.view.ordinals ≤ given) }
+            × (length self.old.view.ordinals ≤ given)
+            × (self.old.view.opens ≤ opens)
+            × IsAbove given self.old.view.ordinals }
         ensures already { result ≡ Shutting.Already → self.new ≡ record self.old { view = view_found self.old.view } }
     {
         let found = self
@@ -242,7 +250,7 @@ impl DeviceSeat {
     /// It answers `Fired` exactly where the word was shut and not fired, with nothing open and the count that `shut`
     /// told, and so once at most. Else `NotYet` carries the word that was found.
     pub fn fire(&mut self) -> Firing
-        requires { (self.old.view.begun ≡ 1) × (self.old.began_by ≡ self.old.number) }
+        requires { (1 ≤ self.old.view.begun) × (self.old.began_by ≡ self.old.number) }
         ensures fired { result ≡ Firing.Fired →
             (self.new ≡ record self.old { view = record self.old.view { fired = 1 } })
             × (self.old.view.fired ≡ 0)
@@ -264,19 +272,22 @@ impl DeviceSeat {
     }
 
     /// Takes in a seat that has nothing open and has fired where it began. From then on this seat keeps what the other had
-    /// been given, found, begun and fired.
+    /// been given, found, begun and fired. Of each of the two it is known that it fired only what it began.
     pub fn take_in(&mut self, other: DeviceSeat)
         requires latch { other.latch ≡ self.old.latch }
         requires free { MayBeTakenIn other }
-        ensures { self.new ≡ both_ends self.old other }
+        ensures both { self.new ≡ both_ends self.old other }
+        ensures only_who_began { FiresOnlyWhatItBegan self.old × FiresOnlyWhatItBegan other }
     {
         self.gather(other);
     }
 
-    /// Takes in any seat of the latch, at the end, when all seats come into one hand.
+    /// Takes in any seat of the latch, at the end, when all seats come into one hand. Of each of the two it is known that it
+    /// fired only what it began.
     pub fn gather(&mut self, other: DeviceSeat)
         requires { other.latch ≡ self.old.latch }
-        ensures { self.new ≡ both_ends self.old other }
+        ensures both { self.new ≡ both_ends self.old other }
+        ensures only_who_began { FiresOnlyWhatItBegan self.old × FiresOnlyWhatItBegan other }
     {
         let DeviceSeat {
             table: _,
@@ -299,8 +310,8 @@ impl DeviceSeat {
     /// What came of the device, of a seat that stands for all. It is one load.
     ///
     /// The ordinals that all seats were given are the numbers below their count, each once. Where a seat found the latch
-    /// shut, one began; that one was told the count, and from then on nothing was given. Where it has fired, nothing is
-    /// open.
+    /// shut, one began; that one was told the count, and from then on nothing was given and no seat found the latch open.
+    /// Where it has fired, nothing is open.
     pub fn learn(&mut self) -> DeviceTotals
         requires { self.old.view.seats ≡ self.old.latch.seats }
         ensures same { self.new ≡ self.old }

@@ -25,10 +25,13 @@ pub struct DeviceView {
     pub looks: u64,
     /// How often it found the latch shut.
     pub found: u64,
+    /// How often its `give`, `hold` or `look` found the latch open, and that of the seats which it took in.
+    pub opens: u64,
     /// Whether it began the unregistration.
     pub begun: u64,
-    /// How many channels had been given when it did so.
+    /// How many channels had been given when it did so, and how often the latch had been found open by all seats.
     pub count: u64,
+    pub opens_then: u64,
     /// Whether it has fired.
     pub fired: u64,
     /// How often it tried to fire in vain, and the word that the last such try found.

@@ -25,7 +25,7 @@ all_of t e all zero l b = omega arith
 all_of t e all (suc d) l b = absurd (omega arith)
 
 fired_of : (t : ℕ) (e : SeatEnd) → e.view.fired ≡ 1 → (d : ℕ) → d < 1 → HaveFired (seats_of d (record { thread = t; seats = e ∷ [] } ∷ []))
-fired_of t e fired zero b = inl (0, e, omega arith, refl, fired)
+fired_of t e fired zero b = inl (0, e, omega arith, refl, omega arith)
 fired_of t e fired (suc d) b = absurd (omega arith)
 
 in_row : (t : ℕ) (es : List SeatEnd) → length es ≡ 1
