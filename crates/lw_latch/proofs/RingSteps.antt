@@ -142,7 +142,7 @@ finishes slots id me many add sender inside_one some_finished room is_add s h _ 
     let fit = h.each id v at in
     let there = at_le inside s.views id v at in
     let part = sender.one_part in
-    let not_found = sender.inside_open inside_one in
+    let not_found = sender.inside_found_not inside_one in
     let unclosed : 1 ≤ total closed s.views → ⊥ = λ some_closed. (let f = fit.inside_found some_closed (omega arith) in omega arith) in
     let counted : (add + 1) / 131072 ≡ many = omega arith in
     let w : RingView = record v { inside = 0; finished = v.finished + (add + 1) / 131072 } in

@@ -18,7 +18,7 @@ pub record IsSender (v : RingView) : Type 0 where
   pub no_tries : v.tries ≡ 0
   pub once : v.inside ≤ 1
   -- one that is inside has not found the latch closed
-  pub inside_open : v.inside ≡ 1 → v.found ≡ 0
+  pub inside_found_not : v.inside ≡ 1 → v.found ≡ 0
 
 -- the view of the receiver's seat, with the senders that it has taken in
 abbrev pub IsReceiver : RingView → Type 0

@@ -27,7 +27,7 @@ const FINISHED: u64 = 131_072;
 /// What `enter` found.
 #[derive(Clone, Copy, PartialEq, Eq, Debug)]
 pub enum Enter {
-    /// The latch was open, and this sender is inside.
+    /// The latch was not closed, and this sender is inside.
     Inside,
     /// The latch was closed, and this sender is outside.
     Closed,
@@ -144,7 +144,7 @@ impl LatchRecv {
     ///
     /// `NotYet` comes exactly where the word was another one.
     pub fn close(&mut self, taken: u64) -> Closing
-        requires open { self.old.view.closed ≡ 0 }
+        requires not_closed { self.old.view.closed ≡ 0 }
         requires taken { taken < above_all_sent }
         ensures closed { result ≡ Closing.Closed →
             self.new ≡ record self.old { view = record self.old.view { closed = 1; count = taken } } }
@@ -205,7 +205,7 @@ impl LatchRecv {
     }
 }
 
-/// A new latch with its ends, open and with nobody inside.
+/// A new latch with its ends, not closed and with nobody inside.
 pub fn ring_latch(alloc: Global, senders: u32) -> Result<(LatchRecv, Vec<LatchSend>), NoMemory>
     requires { (1 ≤ senders) × (senders ≤ most_senders) }
     ensures recv { IfOk result (λ r. r.0.view ≡ record first_view { parts = most_senders - senders }) }

@@ -99,9 +99,12 @@ fn a_source_is_read_to_its_end_and_no_further(rt: HostRuntime) -> Result<(), Fai
         if piece >= 1 {
             let ended = run_of(alloc, FIRST, piece)?;
             let pieces = FIRST.len().div_ceil(piece);
-            assert!(rt; ended.reads == pieces as u64 + 1, "in pieces of {piece}");
+            assert!(rt;
+                ended.reads == (pieces as u64).saturating_add(1),
+                "in pieces of {piece}"
+            );
             let refused = run_of(alloc, "{}", piece)?;
-            assert!(rt; refused.reads == 2usize.div_ceil(piece) as u64 + 1);
+            assert!(rt; refused.reads == (2usize.div_ceil(piece) as u64).saturating_add(1));
         }
     }
     Ok(())

@@ -102,20 +102,20 @@ module _ {T L F : Type 0} (letter : T → L) (tag_of : L → Tag) (fits : ℕ �
   -- the ring is made, with no sender yet
   founded : (number : ℕ) (family : Option F) → P [] (receiver number family 0 ∷ spent ∷ [])
   founded number family = record {
-    facts = record { reader = 0; seat = λ _. 0; sent = λ _. []; got = []; number = number; family = family };
+    facts = record { reader = 0; pass_of = λ _. 0; sent = λ _. []; got = []; number = number; family = family };
     delivered = λ p. refl;
     short = λ p. omega arith;
     fitting = All-nil (FR number family);
     each = fit;
   }
     where
-      fit : (i : ℕ) (v : V) → get_elem? (receiver number family 0 ∷ spent ∷ []) i ≡ some v → FitsView (record { reader = 0; seat = λ _. 0; sent = λ _. []; got = []; number = number; family = family }) i v
-      fit zero v e = subst (FitsView (record { reader = 0; seat = λ _. 0; sent = λ _. []; got = []; number = number; family = family }) 0) (some-injective _ v e) (
+      fit : (i : ℕ) (v : V) → get_elem? (receiver number family 0 ∷ spent ∷ []) i ≡ some v → FitsView (record { reader = 0; pass_of = λ _. 0; sent = λ _. []; got = []; number = number; family = family }) i v
+      fit zero v e = subst (FitsView (record { reader = 0; pass_of = λ _. 0; sent = λ _. []; got = []; number = number; family = family }) 0) (some-injective _ v e) (
         refl,
         (λ s. off s),
-        (λ _. record { its_seat = refl; alone = refl; got = refl; number = refl; family = refl; later = λ p l. (refl, refl); known = λ k l. absurd (omega arith); few = omega arith; taken_in = omega arith }),
+        (λ _. record { its_pass = refl; alone = refl; got = refl; number = refl; family = refl; later = λ p l. (refl, refl); known = λ k l. absurd (omega arith); few = omega arith; taken_in = omega arith }),
       )
-      fit (suc zero) v e = subst (FitsView (record { reader = 0; seat = λ _. 0; sent = λ _. []; got = []; number = number; family = family }) 1) (some-injective _ v e) (refl, (λ s. off s), (λ g. off g))
+      fit (suc zero) v e = subst (FitsView (record { reader = 0; pass_of = λ _. 0; sent = λ _. []; got = []; number = number; family = family }) 1) (some-injective _ v e) (refl, (λ s. off s), (λ g. off g))
       fit (suc (suc i)) v e = absurd (some-ne-none v (sym e))
 
   founding : (pass : ℕ) (v : V) (number : ℕ) (family : Option F) → v ≡ fresh → Forks H pass v (receiver number family 0) spent
@@ -134,33 +134,33 @@ module _ {T L F : Type 0} (letter : T → L) (tag_of : L → Tag) (fits : ℕ �
       let mine = (h.each pass v here).2 gets in
       let w : V = one_more v in
       let vs : List V = set views pass w in
-      let g : Facts L F = record f { seat = but f.seat v.made (length vs) } in
-      let seat_else = but_else f.seat v.made (length vs) in
+      let g : Facts L F = record f { pass_of = but f.pass_of v.made (length vs) } in
+      let pass_else = but_else f.pass_of v.made (length vs) in
       let w_fits : FitsView g pass w = (
         old,
         (λ s. off (sym mine.alone ∙ s)),
         (λ _. record {
-          its_seat = mine.its_seat;
+          its_pass = mine.its_pass;
           alone = mine.alone;
           got = mine.got;
           number = mine.number;
           family = mine.family;
-          later = λ p l. (seat_else p (λ e. omega arith) ∙ (mine.later p (omega arith)).0, (mine.later p (omega arith)).1);
-          known = λ k l. (let t = mine.taken_in in seat_else k (λ e. omega arith) ∙ (mine.known k l).0, (mine.known k l).1);
+          later = λ p l. (pass_else p (λ e. omega arith) ∙ (mine.later p (omega arith)).0, (mine.later p (omega arith)).1);
+          known = λ k l. (let t = mine.taken_in in pass_else k (λ e. omega arith) ∙ (mine.known k l).0, (mine.known k l).1);
           few = omega arith;
           taken_in = (let t = mine.taken_in in omega arith);
         }),
       ) in
       let others : (j : ℕ) (u : V) → j ≢ pass → get_elem? views j ≡ some u → FitsView g j u = λ j u apart e. (let o = h.each j u e in (
         o.0,
-        (λ s. (let q = o.1 s in record { its_seat = seat_else u.from (λ same. q.apart (sym q.its_seat ∙ ap f.seat same ∙ (mine.later v.made (omega arith)).0)) ∙ q.its_seat; apart = q.apart; put = q.put; number = q.number; family = q.family })),
-        (λ s. absurd (apart ((o.2 s).its_seat ∙ sym mine.its_seat))),
+        (λ s. (let q = o.1 s in record { its_pass = pass_else u.from (λ same. q.apart (sym q.its_pass ∙ ap f.pass_of same ∙ (mine.later v.made (omega arith)).0)) ∙ q.its_pass; apart = q.apart; put = q.put; number = q.number; family = q.family })),
+        (λ s. absurd (apart ((o.2 s).its_pass ∙ sym mine.its_pass))),
       )) in
       let next : FitsView g (length vs) (the_next v) = (
         refl,
         (λ _. record {
-          its_seat = but_here f.seat v.made (length vs) v.made refl;
-          apart = (let r = past views pass v here in λ e. (let same = mine.its_seat in let long = length-set views pass w in omega arith));
+          its_pass = but_here f.pass_of v.made (length vs) v.made refl;
+          apart = (let r = past views pass v here in λ e. (let same = mine.its_pass in let long = length-set views pass w in omega arith));
           put = sym (mine.later v.made (omega arith)).1;
           number = mine.number;
           family = mine.family;
@@ -205,20 +205,20 @@ module _ {T L F : Type 0} (letter : T → L) (tag_of : L → Tag) (fits : ℕ �
         fitting = All-append (FR f.number f.family) items xs h.fitting fit_f;
         each = all_set g views pass w (
           old,
-          (λ _. record { its_seat = mine.its_seat; apart = mine.apart; put = ap (λ ys. ys ++ ls) mine.put ∙ sym (here_now k refl); number = mine.number; family = mine.family }),
+          (λ _. record { its_pass = mine.its_pass; apart = mine.apart; put = ap (λ ys. ys ++ ls) mine.put ∙ sym (here_now k refl); number = mine.number; family = mine.family }),
           (λ s. off (sym ((h.each pass v here).2 s).alone ∙ sends)),
         )
             (λ j u apart e. (let o = h.each j u e in (
               o.0,
-              (λ s. (let q = o.1 s in record { its_seat = q.its_seat; apart = q.apart; put = q.put ∙ sym (as_was u.from (λ same. apart (sym q.its_seat ∙ ap f.seat same ∙ mine.its_seat))); number = q.number; family = q.family })),
+              (λ s. (let q = o.1 s in record { its_pass = q.its_pass; apart = q.apart; put = q.put ∙ sym (as_was u.from (λ same. apart (sym q.its_pass ∙ ap f.pass_of same ∙ mine.its_pass))); number = q.number; family = q.family })),
               (λ s. (let q = o.2 s in record {
-                its_seat = q.its_seat;
+                its_pass = q.its_pass;
                 alone = q.alone;
                 got = q.got;
                 number = q.number;
                 family = q.family;
-                later = λ p le. ((q.later p le).0, as_was p (λ same. mine.apart (sym mine.its_seat ∙ ap f.seat (sym same) ∙ (q.later p le).0)) ∙ (q.later p le).1);
-                known = λ p lt. ((q.known p lt).0, (q.known p lt).1 ∙ sym (as_was p (λ same. mine.apart (sym mine.its_seat ∙ ap f.seat (sym same) ∙ (q.known p lt).0))));
+                later = λ p le. ((q.later p le).0, as_was p (λ same. mine.apart (sym mine.its_pass ∙ ap f.pass_of (sym same) ∙ (q.later p le).0)) ∙ (q.later p le).1);
+                known = λ p lt. ((q.known p lt).0, (q.known p lt).1 ∙ sym (as_was p (λ same. mine.apart (sym mine.its_pass ∙ ap f.pass_of (sym same) ∙ (q.known p lt).0))));
                 few = q.few;
                 taken_in = q.taken_in;
               })),
@@ -258,12 +258,12 @@ module _ {T L F : Type 0} (letter : T → L) (tag_of : L → Tag) (fits : ℕ �
           each = all_set g views pass w (
             old,
             (λ s. off (sym mine.alone ∙ s)),
-            (λ _. record { its_seat = mine.its_seat; alone = mine.alone; got = ap (λ ys. ys ++ ls) mine.got; number = mine.number; family = mine.family; later = mine.later; known = mine.known; few = mine.few; taken_in = mine.taken_in }),
+            (λ _. record { its_pass = mine.its_pass; alone = mine.alone; got = ap (λ ys. ys ++ ls) mine.got; number = mine.number; family = mine.family; later = mine.later; known = mine.known; few = mine.few; taken_in = mine.taken_in }),
           )
               (λ j u apart e. (let o = h.each j u e in (
                 o.0,
-                (λ s. (let q = o.1 s in record { its_seat = q.its_seat; apart = q.apart; put = q.put; number = q.number; family = q.family })),
-                (λ s. absurd (apart ((o.2 s).its_seat ∙ sym mine.its_seat))),
+                (λ s. (let q = o.1 s in record { its_pass = q.its_pass; apart = q.apart; put = q.put; number = q.number; family = q.family })),
+                (λ s. absurd (apart ((o.2 s).its_pass ∙ sym mine.its_pass))),
               )));
         }),
         (λ k d l. (subst (λ (y : ℕ × Option F). FR y.0 y.1 (get_or xs k d)) (λ i. (sym mine.number i, sym mine.family i)) (fit k d l), known k d l)),
@@ -280,24 +280,24 @@ module _ {T L F : Type 0} (letter : T → L) (tag_of : L → Tag) (fits : ℕ �
       let vs : List V = set views pass w in
       let was : get_elem? views other ≡ some u = ⊎_elim (λ (x : (other ≡ pass) × (w ≡ u)). absurd (apart x.0)) (λ (x : (other ≢ pass) × (get_elem? views other ≡ some u)). x.1) (at_set views pass other w u there) in
       let theirs = (h.each other u was).1 sends in
-      let g : Facts L F = record f { seat = but f.seat u.from f.reader } in
-      let seat_here : (p : ℕ) → p ≡ u.from → g.seat p ≡ f.reader = but_here f.seat u.from f.reader in
-      let seat_else : (p : ℕ) → p ≢ u.from → g.seat p ≡ f.seat p = but_else f.seat u.from f.reader in
-      let kept : (p : ℕ) → f.seat p ≡ f.reader → g.seat p ≡ f.reader = λ p e. dite (ℕ_discrete p u.from) (seat_here p) (λ n. seat_else p n ∙ e) in
-      let is_made : u.from < v.made = dite (dec_le v.made u.from) (λ le. absurd (theirs.apart (sym theirs.its_seat ∙ (mine.later u.from le).0))) (λ nle. omega arith) in
+      let g : Facts L F = record f { pass_of = but f.pass_of u.from f.reader } in
+      let pass_here : (p : ℕ) → p ≡ u.from → g.pass_of p ≡ f.reader = but_here f.pass_of u.from f.reader in
+      let pass_else : (p : ℕ) → p ≢ u.from → g.pass_of p ≡ f.pass_of p = but_else f.pass_of u.from f.reader in
+      let kept : (p : ℕ) → f.pass_of p ≡ f.reader → g.pass_of p ≡ f.reader = λ p e. dite (ℕ_discrete p u.from) (pass_here p) (λ n. pass_else p n ∙ e) in
+      let is_made : u.from < v.made = dite (dec_le v.made u.from) (λ le. absurd (theirs.apart (sym theirs.its_pass ∙ (mine.later u.from le).0))) (λ nle. omega arith) in
       let longer = length-append v.known (u.put ∷ []) in
       let w_fits : FitsView g pass w = (
         old,
         (λ s. off (sym mine.alone ∙ s)),
         (λ _. record {
-          its_seat = mine.its_seat;
+          its_pass = mine.its_pass;
           alone = mine.alone;
           got = mine.got;
           number = mine.number;
           family = mine.family;
           later = λ p le. (kept p (mine.later p le).0, (mine.later p le).1);
           known = λ k lt. dite (ℕ_discrete k (length v.known))
-              (λ e. (seat_here k (e ∙ sym next), at_last v.known u.put k e ∙ theirs.put ∙ ap f.sent (next ∙ sym e)))
+              (λ e. (pass_here k (e ∙ sym next), at_last v.known u.put k e ∙ theirs.put ∙ ap f.sent (next ∙ sym e)))
               (λ n. (let lt' : k < length v.known = omega arith in (kept k (mine.known k lt').0, at_front v.known u.put k lt' ∙ (mine.known k lt').1)));
           few = mine.few;
           taken_in = omega arith;
@@ -306,8 +306,8 @@ module _ {T L F : Type 0} (letter : T → L) (tag_of : L → Tag) (fits : ℕ �
       let middle : (j : ℕ) (y : V) → j ≢ other → get_elem? vs j ≡ some y → FitsView g j y = λ j y far e. all_set_but g views pass w other w_fits
       (λ i z i_apart i_far e'. (let o = h.each i z e' in (
         o.0,
-        (λ s. (let q = o.1 s in record { its_seat = seat_else z.from (λ same. i_far (sym q.its_seat ∙ ap f.seat same ∙ theirs.its_seat)) ∙ q.its_seat; apart = q.apart; put = q.put; number = q.number; family = q.family })),
-        (λ s. absurd (i_apart ((o.2 s).its_seat ∙ sym mine.its_seat))),
+        (λ s. (let q = o.1 s in record { its_pass = pass_else z.from (λ same. i_far (sym q.its_pass ∙ ap f.pass_of same ∙ theirs.its_pass)) ∙ q.its_pass; apart = q.apart; put = q.put; number = q.number; family = q.family })),
+        (λ s. absurd (i_apart ((o.2 s).its_pass ∙ sym mine.its_pass))),
       ))) j y far e in
       inr (record {
         facts = g;
@@ -323,8 +323,8 @@ module _ {T L F : Type 0} (letter : T → L) (tag_of : L → Tag) (fits : ℕ �
   unpacked-push [] x = append-nil (contents x)
   unpacked-push (y ∷ ys) x = ap (λ l. contents y ++ l) (unpacked-push ys x) ∙ sym (append_assoc (contents y) (unpacked ys) (contents x))
 
-  pub gathers : (pass : ℕ) (v : V) (other : ℕ) (u : V) → v.fresh ≡ false → v.gets ≡ true → u.sends ≡ true → u.from ≡ length v.known → Merges D pass v other u (with_sender v u) spent
-  gathers pass v other u old gets sends next parcels views h here apart there = joining pass v other u old gets sends next (unpacked parcels) views h here apart there
+  pub takes_in : (pass : ℕ) (v : V) (other : ℕ) (u : V) → v.fresh ≡ false → v.gets ≡ true → u.sends ≡ true → u.from ≡ length v.known → Merges D pass v other u (with_sender v u) spent
+  takes_in pass v other u old gets sends next parcels views h here apart there = joining pass v other u old gets sends next (unpacked parcels) views h here apart there
 
   pub founds : (pass : ℕ) (v : V) (number : ℕ) (family : Option F) → v ≡ fresh → Forks D pass v (receiver number family 0) spent
   founds pass v number family is parcels views h here = founding pass v number family is (unpacked parcels) views h here

@@ -57,7 +57,7 @@ module _ {L F : Type 0} where
 -- was taken, and the ring's number and family
 pub record Facts (L F : Type 0) : Type 0 where
   pub reader : ℕ
-  pub seat : ℕ → ℕ
+  pub pass_of : ℕ → ℕ
   pub sent : ℕ → List L
   pub got : List L
   pub number : ℕ
@@ -66,7 +66,7 @@ pub record Facts (L F : Type 0) : Type 0 where
 module _ {L F : Type 0} where
   -- what a sender's pass knows is so
   pub record FitsSender (f : Facts L F) (i : ℕ) (v : PassView L F) : Type 0 where
-    pub its_seat : f.seat v.from ≡ i
+    pub its_pass : f.pass_of v.from ≡ i
     pub apart : i ≢ f.reader
     pub put : v.put ≡ f.sent v.from
     pub number : v.number ≡ f.number
@@ -74,13 +74,13 @@ module _ {L F : Type 0} where
 
   -- what the receiver's pass knows is so, and a sender that is not yet made has sent nothing
   pub record FitsReceiver (f : Facts L F) (i : ℕ) (v : PassView L F) : Type 0 where
-    pub its_seat : i ≡ f.reader
+    pub its_pass : i ≡ f.reader
     pub alone : v.sends ≡ false
     pub got : v.got ≡ f.got
     pub number : v.number ≡ f.number
     pub family : v.family ≡ f.family
-    pub later : (p : ℕ) → v.made ≤ p → (f.seat p ≡ f.reader) × (f.sent p ≡ [])
-    pub known : (k : ℕ) → k < length v.known → (f.seat k ≡ f.reader) × (list_at v.known k ≡ f.sent k)
+    pub later : (p : ℕ) → v.made ≤ p → (f.pass_of p ≡ f.reader) × (f.sent p ≡ [])
+    pub known : (k : ℕ) → k < length v.known → (f.pass_of k ≡ f.reader) × (list_at v.known k ≡ f.sent k)
     pub few : v.made ≤ most_senders
     pub taken_in : length v.known ≤ v.made
 

@@ -6,7 +6,7 @@ ghost use Rattle.lw_latch.specs.RingWord.{most_sent};
 ghost use Rattle.lw_ring.specs.Queue.{contents, Sends};
 ghost use Rattle.lw_ring.specs.Calls.{AfterRefusal, NamedFrom};
 
-use crate::gate;
+use crate::latching;
 use crate::parcel::Parcel;
 use crate::queue::{Pass, Queue, Sending};
 use lw_base::Tagged;
@@ -119,17 +119,17 @@ impl<T: Tagged + Drop> SendEnd<T> {
         if self.sent == MOST_SENT {
             return Err(SendRefusal::Spent(value));
         }
-        if gate::enter(&mut self.latch) == Enter::Closed {
+        if latching::enter(&mut self.latch) == Enter::Closed {
             return Err(SendRefusal::Exited(value));
         }
         match push(rt, &self.shared.queue, &mut self.pass, Parcel::One(value)) {
             Ok(()) => {
-                gate::finish(&mut self.latch, 1);
+                latching::finish(&mut self.latch, 1);
                 self.sent += 1;
                 Ok(())
             }
             Err(Parcel::One(value)) => {
-                gate::cancel(&mut self.latch);
+                latching::cancel(&mut self.latch);
                 Err(SendRefusal::NoMemory(value))
             }
             Err(Parcel::Run(_)) => unreachable!(),
@@ -156,17 +156,17 @@ impl<T: Tagged + Drop> SendEnd<T> {
         if count > MOST_SENT - self.sent {
             return Err(SendRefusal::Spent(run));
         }
-        if gate::enter(&mut self.latch) == Enter::Closed {
+        if latching::enter(&mut self.latch) == Enter::Closed {
             return Err(SendRefusal::Exited(run));
         }
         match push(rt, &self.shared.queue, &mut self.pass, Parcel::Run(run)) {
             Ok(()) => {
-                gate::finish(&mut self.latch, count);
+                latching::finish(&mut self.latch, count);
                 self.sent += count;
                 Ok(())
             }
             Err(Parcel::Run(run)) => {
-                gate::cancel(&mut self.latch);
+                latching::cancel(&mut self.latch);
                 Err(SendRefusal::NoMemory(run))
             }
             Err(Parcel::One(_)) => unreachable!(),

@@ -6,7 +6,7 @@
 #![tactic(auto)]
 
 mod ends;
-mod gate;
+mod latching;
 mod making;
 mod parcel;
 mod queue;

@@ -7,7 +7,7 @@ ghost use Rattle.lw_ring.specs.Calls.{EmptyAt, InTurn};
 ghost use Rattle.lw_ring.specs.Ends.{IsSpare};
 
 use crate::ends::Shared;
-use crate::gate;
+use crate::latching;
 use crate::parcel::Parcel;
 use crate::queue::{Pass, Queue, Taking};
 use lw_base::Tagged;
@@ -291,6 +291,6 @@ impl<T: Tagged + Drop> RecvEnd<T> {
             × (self.new.seen ≡ seen)
             × (seen ≢ length self.old.taken * finished_unit) }
     {
-        gate::close(&mut self.latch, self.taken)
+        latching::close(&mut self.latch, self.taken)
     }
 }

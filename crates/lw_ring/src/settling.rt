@@ -9,7 +9,7 @@ ghost use Rattle.lw_ring.specs.Ends.{IsEnd};
 ghost use Rattle.lw_ring.specs.Settling.{AreAllEnds, all_sent, all_found, whole};
 
 use crate::ends::SendEnd;
-use crate::gate;
+use crate::latching;
 use crate::parcel::Parcel;
 use crate::queue::{Dealing, Pass, Queue};
 use crate::recv::{RecvEnd, pop};
@@ -71,14 +71,14 @@ pub fn settle<T: Tagged + Drop, R: Wait>(
     ensures closed { IfOk result (λ s. recv.closed ≡ 1 → (recv.hand ≡ []) × (s.left.items ≡ [])) }
     ensures exited { IfOk result (λ _. 1 ≤ all_found ends.items → recv.closed ≡ 1) }
 {
-    let (recv, mut counts) = gather(alloc, recv, ends)?;
+    let (recv, mut counts) = take_all_in(alloc, recv, ends)?;
     let (recv, left) = empty(rt, alloc, recv)?;
     discount(counts.as_mut_slice(), left.as_slice());
     Ok(Settled { counts, left, recv })
 }
 
 // Takes all senders in, and counts what each has sent.
-fn gather<T: Tagged + Drop>(
+fn take_all_in<T: Tagged + Drop>(
     alloc: Global,
     mut recv: RecvEnd<T>,
     ends: Vec<SendEnd<T>>,
@@ -120,7 +120,7 @@ fn take_in<T: Tagged + Drop>(recv: &mut RecvEnd<T>, end: SendEnd<T>)
         sent: _,
     } = end;
     recv.shared.queue.absorb::<Dealing>(&mut recv.pass, pass);
-    gate::take_in(&mut recv.latch, latch);
+    latching::take_in(&mut recv.latch, latch);
 }
 
 // Takes what is left, with all senders taken in.
@@ -149,7 +149,7 @@ fn empty<T: Tagged + Drop, R: Wait>(
         mut hand,
         spares,
     } = recv;
-    gate::learn(&mut latch);
+    latching::learn(&mut latch);
     hand.reverse();
     let left = drain(rt, &shared.queue, &mut pass, hand)?;
     let taken = taken + left.len() as u64;

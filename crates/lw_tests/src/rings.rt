@@ -460,9 +460,9 @@ fn open_ring_named_by<T: Tagged + Drop, B: Naming<T::Family>>(
 }
 
 // The receiver of notes has number 0.
-struct Notes;
+struct NotesRing;
 
-impl Naming<()> for Notes {
+impl Naming<()> for NotesRing {
     ghost use Rattle.std.specs.Prelude.{Some};
 
     ghost number = { 0 };
@@ -472,7 +472,7 @@ impl Naming<()> for Notes {
 
 #[test]
 fn a_type_of_the_caller_names_a_ring(rt: HostRuntime) -> Result<(), Fail> {
-    let (mut recv, mut end) = ring_named_by::<Note, Notes>(rt.alloc())?;
+    let (mut recv, mut end) = ring_named_by::<Note, NotesRing>(rt.alloc())?;
     assert!(rt; put(&rt, &mut end, 7).is_ok());
     let got = take(&rt, rt.alloc(), &mut recv, 8)?;
     assert!(rt; have(&got, &[7]) && recv.close() == Closing::Closed);
@@ -481,7 +481,7 @@ fn a_type_of_the_caller_names_a_ring(rt: HostRuntime) -> Result<(), Fail> {
 
 #[test]
 fn a_type_of_the_caller_names_an_open_ring(rt: HostRuntime) -> Result<(), Fail> {
-    let (mut recv, mut end) = open_ring_named_by::<Note, Notes>(rt.alloc())?;
+    let (mut recv, mut end) = open_ring_named_by::<Note, NotesRing>(rt.alloc())?;
     assert!(rt; put(&rt, &mut end, 7).is_ok());
     let got = take(&rt, rt.alloc(), &mut recv, 8)?;
     assert!(rt; have(&got, &[7]));

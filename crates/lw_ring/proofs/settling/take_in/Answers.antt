@@ -2,7 +2,7 @@ use Rattle.std.proofs.Common.{rules, ◌≡◌, ℕ, ◌+◌, ◌-◌, ◌<◌, 
 use Rattle.lw_ring.specs.declared.queue.PassView.{PassView}
 use Rattle.lw_base.specs.Letters.{total_length}
 use Rattle.lw_ring.specs.Ends.{Receiver, Receiving}
-use Rattle.lw_ring.proofs.Posts.{gathers}
+use Rattle.lw_ring.proofs.Posts.{takes_in}
 use Rattle.lw_ring.proofs.Rows.{total_length-push}
 use Rattle.lw_ring.proofs.settling.take_in.Goals as goal
 
@@ -10,7 +10,7 @@ pub absorb-requires-clause-rule : goal.absorb-requires-clause-rule
 absorb-requires-clause-rule g c =
     let r = c.recv.invariant in
     let e = c.end.invariant in
-    gathers _ _ _ _ _ _ _ r.1.not_fresh r.1.gets e.1.sends (e.1.from ∙ ap (λ x. x.sender) c.end.view_is ∙ c.requires.0.2 ∙ sym (ap (λ x. length x.known) c.recv.view_is))
+    takes_in _ _ _ _ _ _ _ r.1.not_fresh r.1.gets e.1.sends (e.1.from ∙ ap (λ x. x.sender) c.end.view_is ∙ c.requires.0.2 ∙ sym (ap (λ x. length x.known) c.recv.view_is))
 
 pub invariant_of-recv : goal.invariant_of-recv
 invariant_of-recv g c =
