@@ -4,3 +4,4 @@ mod Settled
 mod AllRows
 mod NewRows
 mod Beginning
+pub mod RowLaws

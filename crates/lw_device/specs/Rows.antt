@@ -1,7 +1,7 @@
 -- The rows of a registry as callers see them.
 use Rattle.std.specs.Prelude.{◌≡◌, ℕ, ◌+◌, ◌<◌, ◌≤◌, List, [], ◌∷◌, length, map, slice_index_or, slice_set, All}
 use Rattle.lw_base.specs.Totals.{total}
-use Rattle.lw_latch.specs.DeviceWord.{view_given, view_not_given, view_visiting, view_usable, view_found, view_begun, view_tried, IsWhole}
+use Rattle.lw_latch.specs.DeviceWord.{view_given, view_not_given, view_visiting, view_usable, view_found, view_begun, view_fired, view_tried, closing_word, IsWhole}
 use Rattle.lw_latch.specs.DeviceEnds.{DeviceLatch, SeatEnd, new_seat, both_ends, HaveFired}
 use Rattle.lw_device.specs.declared.settling.DeviceEnd.{DeviceEnd}
 
@@ -56,7 +56,7 @@ abbrev pub began : ℕ → ℕ → SeatEnd → SeatEnd
 began given opens e = record e { began_by = e.number; view = view_begun given opens e.view }
 
 abbrev pub fired : SeatEnd → SeatEnd
-fired e = record e { view = record e.view { fired = 1 } }
+fired e = record e { view = view_fired (closing_word e.view.count) e.view }
 
 abbrev pub tried : ℕ → SeatEnd → SeatEnd
 tried seen e = record e { view = view_tried seen e.view }

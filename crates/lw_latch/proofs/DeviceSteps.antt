@@ -9,7 +9,7 @@ use Rattle.atomic_table.specs.Table.{keeps, step, stepped, Allows}
 use Rattle.atomic_table.proofs.Lists.{at_set}
 use Rattle.lw_latch.specs.declared.device_view.DeviceView.{DeviceView}
 use Rattle.lw_base.specs.Totals.{total}
-use Rattle.lw_latch.specs.DeviceWord.{seats, given, backing, begun, count, opens, opens_then, fired, held, opened, times, times_given, device_word, Suits, Tied, shut_bit, closing_word, view_given, view_not_given, view_visiting, view_usable, view_found, view_begun, view_tried, Gives, TakesBack, Holds, LetsGo, Releases, Unholds, LooksAtShut, Begins, TriesToFire}
+use Rattle.lw_latch.specs.DeviceWord.{seats, given, backing, begun, count, opens, opens_then, fired, held, opened, times, times_given, device_word, Suits, Tied, shut_bit, closing_word, view_given, view_not_given, view_visiting, view_usable, view_found, view_begun, view_fired, view_tried, Gives, TakesBack, Holds, LetsGo, Releases, Unholds, LooksAtShut, Begins, TriesToFire}
 use Rattle.lw_base.proofs.Totals.{total_set, at_le, total_zero}
 use Rattle.lw_latch.proofs.ShutBit.{sets_shut, keeps_shut}
 use Rattle.lw_latch.proofs.DeviceMoves.{St, Sat, bounded, reads, moved}
@@ -365,11 +365,11 @@ shuts all slots id me some_seat s h _ at small =
     ))
 
 -- a shut latch with nothing open fires
-fires_once : (all : ℕ) (s : St) (id : ℕ) (v : DeviceView) (n m : ℕ) (c : List (ℕ × Unit {0})) → Tied all s → get_elem? s.views id ≡ some v
+fires_once : (all : ℕ) (s : St) (id : ℕ) (v : DeviceView) (n m seen : ℕ) (c : List (ℕ × Unit {0})) → Tied all s → get_elem? s.views id ≡ some v
     → 1 ≤ v.begun → device_word s.views ≡ closing_word m → n ≡ device_word s.views + 131072
-    → Tied all (stepped s 0 n id c (record v { fired = 1 }) keeps)
-fires_once all s id v n m c h at began closing is =
-    let w : DeviceView = record v { fired = 1 } in
+    → Tied all (stepped s 0 n id c (view_fired seen v) keeps)
+fires_once all s id v n m seen c h at began closing is =
+    let w : DeviceView = view_fired seen v in
     let vs : List DeviceView = set s.views id w in
     let ts = total_set seats s.views id v w at in
     let tg = total_set given s.views id v w at in
@@ -431,11 +431,11 @@ fires all slots id me m old new began is_old is_new s h _ at small =
     let less = b.held_opened in
     dite (ℕ_discrete n old)
     (λ hit. (
-      record v { fired = 1 },
+      view_fired n v,
       keeps,
       tt,
-      subst (λ b. Tied all (stepped s 0 (either b new n) id me.1 (record v { fired = 1 }) keeps)) (sym (eq-eqb n old hit))
-          (fires_once all s id v new m me.1 h at began (omega arith) (omega arith)),
+      subst (λ b. Tied all (stepped s 0 (either b new n) id me.1 (view_fired n v) keeps)) (sym (eq-eqb n old hit))
+          (fires_once all s id v new m n me.1 h at began (omega arith) (omega arith)),
       ((λ _. (refl, (omega arith), omega arith)), λ not. absurd (not hit)),
     ))
     (λ miss. (

@@ -160,6 +160,10 @@ view_found v = record v { found = v.found + 1 }
 abbrev pub view_begun : ℕ → ℕ → DeviceView → DeviceView
 view_begun given opens v = record v { begun = 1; count = given; opens_then = opens }
 
+-- fired, and the word that was found
+abbrev pub view_fired : ℕ → DeviceView → DeviceView
+view_fired seen v = record v { fired = 1; seen = seen }
+
 abbrev pub view_tried : ℕ → DeviceView → DeviceView
 view_tried seen v = record v { tries = v.tries + 1; seen = seen }
 
@@ -207,7 +211,7 @@ Begins step old word new =
 
 abbrev pub TriesToFire : Step (Unit {0}) → Sat → ℕ → Sat → Type 0
 TriesToFire step old word new =
-    (word ≡ step.first → (new ≡ (record old.0 { fired = 1 }, old.1)) × (old.0.fired ≡ 0) × (held old.0 ≡ 0))
+    (word ≡ step.first → (new ≡ (view_fired word old.0, old.1)) × (old.0.fired ≡ 0) × (held old.0 ≡ 0))
     × (word ≢ step.first → new ≡ (view_tried word old.0, old.1))
 
 -- the ordinals are all numbers below how many there are, each once

@@ -34,7 +34,7 @@ pub struct DeviceView {
     pub opens_then: u64,
     /// Whether it has fired.
     pub fired: u64,
-    /// How often it tried to fire in vain, and the word that the last such try found.
+    /// How often it tried to fire in vain, and the word that its last try found, in vain or not.
     pub tries: u64,
     pub seen: u64,
 }
