@@ -3,6 +3,8 @@
 #![tactic(auto)]
 
 #[cfg(test)]
+mod any_rings;
+#[cfg(test)]
 mod device_latches;
 #[cfg(test)]
 mod devices;

@@ -4,11 +4,8 @@ ghost use Rattle.lw_latch.specs.RingWord.{most_sent};
 ghost use Rattle.lw_ring.specs.Calls.{NamedFrom};
 ghost use Rattle.lw_ring.specs.Ends.{IsEnd};
 
-use lw_base::{Naming, NoMemory, Tag, Tagged, What};
-use lw_ring::{
-    Closing, Pair, RecvEnd, SendEnd, SendRefusal, Settled, open_ring, open_ring_as, ring, ring_as,
-    settle,
-};
+use lw_base::{NoMemory, Tag, Tagged, What};
+use lw_ring::{Closing, Pair, RecvEnd, SendEnd, SendRefusal, Settled, ring, settle};
 use std::alloc::Global;
 use std::sync::Wait;
 use std::test::Fail;
@@ -16,9 +13,9 @@ use std::thread;
 use std::thread::Threads;
 
 #[derive(Clone, Copy, PartialEq, Eq, Debug)]
-struct Note {
-    tag: Tag,
-    value: u8,
+pub struct Note {
+    pub tag: Tag,
+    pub value: u8,
 }
 
 impl Tagged for Note {
@@ -54,7 +51,7 @@ impl Tagged for Note {
 }
 
 // Sends one note.
-fn put<R: Wait>(rt: &R, end: &mut SendEnd<Note>, value: u8) -> Result<(), SendRefusal<Note>>
+pub fn put<R: Wait>(rt: &R, end: &mut SendEnd<Note>, value: u8) -> Result<(), SendRefusal<Note>>
     requires { end.old.family ≡ Some tt }
     ensures ring { (end.new.queue ≡ end.old.queue) × (end.new.latch ≡ end.old.latch) }
     ensures end { (end.new.family ≡ end.old.family) × (end.new.sender ≡ end.old.sender) }
@@ -100,7 +97,7 @@ fn put_run<R: Wait>(
 }
 
 // Takes up to `max` notes.
-fn take<R: Wait>(
+pub fn take<R: Wait>(
     rt: &R,
     alloc: Global,
     recv: &mut RecvEnd<Note>,
@@ -115,7 +112,7 @@ fn take<R: Wait>(
 }
 
 // Whether the notes have these values, in this order.
-fn have(notes: &[Note], values: &[u8]) -> bool {
+pub fn have(notes: &[Note], values: &[u8]) -> bool {
     if notes.len() != values.len() {
         return false;
     }
@@ -127,7 +124,7 @@ fn have(notes: &[Note], values: &[u8]) -> bool {
     true
 }
 
-fn ring_of_one(alloc: Global) -> Result<(RecvEnd<Note>, SendEnd<Note>), NoMemory>
+pub fn ring_of_one(alloc: Global) -> Result<(RecvEnd<Note>, SendEnd<Note>), NoMemory>
     ensures recv { IfOk result (λ r. (r.0.closed ≡ 0) × IsSome r.0.latch) }
     ensures end { IfOk result (λ r. r.1.family ≡ Some tt) }
 {
@@ -285,24 +282,6 @@ fn after_the_close_an_old_end_and_a_fresh_one_are_refused(rt: HostRuntime) -> Re
     Ok(())
 }
 
-fn open_ring_of_one(alloc: Global) -> Result<(RecvEnd<Note>, SendEnd<Note>), NoMemory>
-    ensures recv { IfOk result (λ r. r.0.closed ≡ 0) }
-    ensures end { IfOk result (λ r. r.1.family ≡ Some tt) }
-{
-    let (recv, mut ends) = open_ring::<Note>(alloc, 1, 0)?;
-    let end = ends.pop().unwrap();
-    Ok((recv, end))
-}
-
-#[test]
-fn an_open_ring_hands_on_what_is_sent(rt: HostRuntime) -> Result<(), Fail> {
-    let (mut recv, mut end) = open_ring_of_one(rt.alloc())?;
-    assert!(rt; put(&rt, &mut end, 7).is_ok());
-    let got = take(&rt, rt.alloc(), &mut recv, 8)?;
-    assert!(rt; have(&got, &[7]));
-    Ok(())
-}
-
 fn ring_of_all(alloc: Global) -> Result<(RecvEnd<Note>, Vec<SendEnd<Note>>), NoMemory>
     ensures recv { IfOk result (λ r. IsSome r.0.latch × (r.0.closed ≡ 0)) }
     ensures family { IfOk result (λ r. All (λ e. e.family ≡ Some tt) r.1.items) }
@@ -413,77 +392,5 @@ fn the_vector_of_a_run_can_be_used_again(rt: HostRuntime) -> Result<(), Fail> {
     };
     assert!(rt; taken.len() == 5 && emptied.is_empty() && emptied.capacity() >= 5);
     assert!(rt; recv.spare().is_none());
-    Ok(())
-}
-
-// Both ends of a ring of any message, each on a machine thread of its own and back.
-fn there_and_back<T: Tagged + Drop + Send, R: Threads + Wait + Sync>(
-    rt: &R,
-    recv: RecvEnd<T>,
-    end: SendEnd<T>,
-) -> (RecvEnd<T>, SendEnd<T>) {
-    thread::join(rt, move || recv, move || end)
-}
-
-#[test]
-fn ends_of_any_message_go_to_another_machine_thread(rt: HostRuntime) -> Result<(), Fail> {
-    let (recv, end) = ring_of_one(rt.alloc())?;
-    let (recv, end) = there_and_back(&rt, recv, end);
-    assert!(rt; recv.taken() == 0 && end.sent() == 0);
-    Ok(())
-}
-
-// A ring of any message with one sender, by a caller that leaves its family to the type `B`.
-fn ring_named_by<T: Tagged + Drop, B: Naming<T::Family>>(
-    alloc: Global,
-) -> Result<(RecvEnd<T>, SendEnd<T>), NoMemory>
-    requires { 0 ≡ B.number }
-    ensures recv { IfOk result (λ r. (r.0.closed ≡ 0) × (r.0.family ≡ B.family) × IsSome r.0.latch) }
-    ensures end { IfOk result (λ r. r.1.family ≡ B.family) }
-{
-    let (recv, mut ends) = ring_as::<T, B>(alloc, 1, 0)?;
-    let end = ends.pop().unwrap();
-    Ok((recv, end))
-}
-
-// The same without a latch.
-fn open_ring_named_by<T: Tagged + Drop, B: Naming<T::Family>>(
-    alloc: Global,
-) -> Result<(RecvEnd<T>, SendEnd<T>), NoMemory>
-    requires { 0 ≡ B.number }
-    ensures recv { IfOk result (λ r. (r.0.closed ≡ 0) × (r.0.family ≡ B.family)) }
-    ensures end { IfOk result (λ r. r.1.family ≡ B.family) }
-{
-    let (recv, mut ends) = open_ring_as::<T, B>(alloc, 1, 0)?;
-    let end = ends.pop().unwrap();
-    Ok((recv, end))
-}
-
-// The receiver of notes has number 0.
-struct NotesRing;
-
-impl Naming<()> for NotesRing {
-    ghost use Rattle.std.specs.Prelude.{Some};
-
-    ghost number = { 0 };
-
-    ghost family = { Some tt };
-}
-
-#[test]
-fn a_type_of_the_caller_names_a_ring(rt: HostRuntime) -> Result<(), Fail> {
-    let (mut recv, mut end) = ring_named_by::<Note, NotesRing>(rt.alloc())?;
-    assert!(rt; put(&rt, &mut end, 7).is_ok());
-    let got = take(&rt, rt.alloc(), &mut recv, 8)?;
-    assert!(rt; have(&got, &[7]) && recv.close() == Closing::Closed);
-    Ok(())
-}
-
-#[test]
-fn a_type_of_the_caller_names_an_open_ring(rt: HostRuntime) -> Result<(), Fail> {
-    let (mut recv, mut end) = open_ring_named_by::<Note, NotesRing>(rt.alloc())?;
-    assert!(rt; put(&rt, &mut end, 7).is_ok());
-    let got = take(&rt, rt.alloc(), &mut recv, 8)?;
-    assert!(rt; have(&got, &[7]));
     Ok(())
 }
