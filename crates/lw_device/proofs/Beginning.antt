@@ -3,7 +3,7 @@ use Rattle.std.proofs.Common.{◌≡◌, ℕ, ◌<◌, ◌≤◌, List, length, 
 use Rattle.std.proofs.lemmas.List.{get_or_default}
 use Rattle.lw_latch.specs.DeviceWord.{KnowsOpen, IsAbove}
 use Rattle.lw_latch.specs.DeviceEnds.{SeatEnd}
-use Rattle.lw_device.specs.Rows.{Row, no_seat, seat_of, with_seat, began}
+use Rattle.lw_device.specs.Rows.{Row, no_seat, seat_of, with_seat, seat_began}
 
 -- what is known of the seat that was told this, and of what it was told
 record Told (given opens : ℕ) (e : SeatEnd) : Type 0 where
@@ -15,7 +15,7 @@ record Told (given opens : ℕ) (e : SeatEnd) : Type 0 where
 abbrev pub RowBegan : Row → ℕ → ℕ → Row → Type 0
 RowBegan r d given new =
     (opens : ℕ)
-    × (new ≡ with_seat r d (began given opens))
+    × (new ≡ with_seat r d (seat_began given opens))
     × KnowsOpen (seat_of r d).view
     × (length (seat_of r d).view.ordinals ≤ given)
     × ((seat_of r d).view.opens ≤ opens)
@@ -24,7 +24,7 @@ RowBegan r d given new =
 abbrev SeatBegan : SeatEnd → ℕ → SeatEnd → Type 0
 SeatBegan e given new =
     (opens : ℕ)
-    × (new ≡ began given opens e)
+    × (new ≡ seat_began given opens e)
     × KnowsOpen e.view
     × (length e.view.ordinals ≤ given)
     × (e.view.opens ≤ opens)
@@ -36,7 +36,7 @@ row_began thread es d given e new l at t =
     let same : e ≡ get_or es d no_seat = at ∙ get_or_default es d e no_seat l in
     let is = subst (λ (x : SeatEnd). Told given t.0 x) same (record { opened = t.2; own = t.3; often = t.4; above = t.5 }) in (
       t.0,
-      ap (λ (x : SeatEnd). record { thread = thread; seats = slice_set es d x }) (t.1 ∙ ap (began given t.0) same),
+      ap (λ (x : SeatEnd). record { thread = thread; seats = slice_set es d x }) (t.1 ∙ ap (seat_began given t.0) same),
       is.opened,
       is.own,
       is.often,

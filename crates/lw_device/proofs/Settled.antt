@@ -4,7 +4,7 @@ use Rattle.std.proofs.lemmas.List.Elements.{All-nil, All-cons, All-head, All-tai
 use mathlib.Core.Logic.{dite}
 use native.Mathlib.Decide.{ℕ_discrete}
 use Rattle.lw_base.specs.Totals.{total}
-use Rattle.lw_latch.specs.DeviceWord.{held, times, IsWhole}
+use Rattle.lw_latch.specs.DeviceWord.{held_count, times, IsWhole}
 use Rattle.lw_latch.specs.DeviceEnds.{FiresOnlyWhatItBegan, SeatEnd, HaveFired, Settles}
 use Rattle.lw_device.specs.declared.settling.DeviceEnd.{DeviceEnd}
 use Rattle.lw_device.specs.Rows.{IsEndOf}
@@ -83,7 +83,7 @@ settles e fs x end have only =
     let sf = joined_sum fired_of (λ y g. refl) e fs in
     let sb = joined_sum begun_of (λ y g. refl) e fs in
     let sg = joined_sum (λ (y : SeatEnd). length y.view.ordinals) (λ y g. length-append y.view.ordinals g.view.ordinals) e fs in
-    let sh = joined_sum (λ (y : SeatEnd). held y.view) (λ y g. omega arith) e fs in
+    let sh = joined_sum (λ (y : SeatEnd). held_count y.view) (λ y g. omega arith) e fs in
     let st : (k : ℕ) → times k j.view.ordinals ≡ total (λ (y : SeatEnd). times k y.view.ordinals) (e ∷ fs) = λ k. joined_sum (λ (y : SeatEnd). times k y.view.ordinals) (λ y g. times_append k y.view.ordinals g.view.ordinals) e fs in
     let so = joined_sum (λ (y : SeatEnd). y.view.opens) (λ y g. refl) e fs in
     let w = joined_began e fs (sym sb ∙ began) in
@@ -101,5 +101,5 @@ settles e fs x end have only =
       fired = (let z = end.callbacks in omega arith);
       one_callback = end.callbacks ∙ fires;
       by_it = each_equal fired_of begun_of (e ∷ fs) only (omega arith);
-      nothing_open = each_zero (λ (y : SeatEnd). held y.view) (e ∷ fs) (omega arith);
+      nothing_open = each_zero (λ (y : SeatEnd). held_count y.view) (e ∷ fs) (omega arith);
     }

@@ -28,38 +28,38 @@ with_seat r device change = record r { seats = slice_set r.seats device (change 
 
 -- What each call changes.
 
-abbrev pub given : ℕ → SeatEnd → SeatEnd
-given ordinal e = record e { view = view_given ordinal e.view }
+abbrev pub seat_given : ℕ → SeatEnd → SeatEnd
+seat_given ordinal e = record e { view = view_given ordinal e.view }
 
-abbrev pub not_given : SeatEnd → SeatEnd
-not_given e = record e { view = view_not_given e.view }
+abbrev pub seat_not_given : SeatEnd → SeatEnd
+seat_not_given e = record e { view = view_not_given e.view }
 
-abbrev pub usable : SeatEnd → SeatEnd
-usable e = record e { view = view_usable e.view }
+abbrev pub seat_usable : SeatEnd → SeatEnd
+seat_usable e = record e { view = view_usable e.view }
 
-abbrev pub looked : SeatEnd → SeatEnd
-looked e = record e { view = record e.view { looks = e.view.looks + 1 } }
+abbrev pub seat_looked : SeatEnd → SeatEnd
+seat_looked e = record e { view = record e.view { looks = e.view.looks + 1 } }
 
-abbrev pub found : SeatEnd → SeatEnd
-found e = record e { view = view_found e.view }
+abbrev pub seat_found : SeatEnd → SeatEnd
+seat_found e = record e { view = view_found e.view }
 
-abbrev pub visiting : SeatEnd → SeatEnd
-visiting e = record e { view = view_visiting e.view }
+abbrev pub seat_visiting : SeatEnd → SeatEnd
+seat_visiting e = record e { view = view_visiting e.view }
 
-abbrev pub not_visiting : SeatEnd → SeatEnd
-not_visiting e = record e { view = record e.view { visit = 0 } }
+abbrev pub seat_not_visiting : SeatEnd → SeatEnd
+seat_not_visiting e = record e { view = record e.view { visit = 0 } }
 
-abbrev pub destroyed : SeatEnd → SeatEnd
-destroyed e = record e { view = record e.view { channel = 0 } }
+abbrev pub seat_destroyed : SeatEnd → SeatEnd
+seat_destroyed e = record e { view = record e.view { channel = 0 } }
 
-abbrev pub began : ℕ → ℕ → SeatEnd → SeatEnd
-began given opens e = record e { began_by = e.number; view = view_begun given opens e.view }
+abbrev pub seat_began : ℕ → ℕ → SeatEnd → SeatEnd
+seat_began given opens e = record e { began_by = e.number; view = view_begun given opens e.view }
 
-abbrev pub fired : SeatEnd → SeatEnd
-fired e = record e { view = view_fired (closing_word e.view.count) e.view }
+abbrev pub seat_fired : SeatEnd → SeatEnd
+seat_fired e = record e { view = view_fired (closing_word e.view.count) e.view }
 
-abbrev pub tried : ℕ → SeatEnd → SeatEnd
-tried seen e = record e { view = view_tried seen e.view }
+abbrev pub seat_tried : ℕ → SeatEnd → SeatEnd
+seat_tried seen e = record e { view = view_tried seen e.view }
 
 -- a row of a new registry
 abbrev pub new_row : List DeviceLatch → ℕ → Row

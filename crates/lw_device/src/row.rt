@@ -1,8 +1,8 @@
 //! A thread's row of the registry.
 ghost use Rattle.std.specs.Prelude.{◌≡◌, ◌≢◌, ℕ, ◌+◌, ◌^◌, ◌<◌, ◌≤◌, [], ◌∷◌, ◌++◌, length, All, IfOk, IfErr};
-ghost use Rattle.lw_latch.specs.DeviceWord.{KnowsOpen, IsAbove, closing_word, held};
+ghost use Rattle.lw_latch.specs.DeviceWord.{KnowsOpen, IsAbove, closing_word, held_count};
 ghost use Rattle.lw_latch.specs.DeviceEnds.{FiresOnlyWhatItBegan, MayBeTakenIn};
-ghost use Rattle.lw_device.specs.Rows.{latches, seat_of, with_seat, both_rows, given, not_given, usable, looked, found, visiting, not_visiting, destroyed, began, fired, tried};
+ghost use Rattle.lw_device.specs.Rows.{latches, seat_of, with_seat, both_rows, seat_given, seat_not_given, seat_usable, seat_looked, seat_found, seat_visiting, seat_not_visiting, seat_destroyed, seat_began, seat_fired, seat_tried};
 
 use lw_base::NoMemory;
 use lw_latch::{DeviceSeat, Firing, Give, Hold, Look, Shutting};
@@ -63,14 +63,14 @@ impl DeviceRow {
         requires channel { device < length self.old.seats → (seat_of self.old device).view.channel ≡ 0 }
         requires room { device < length self.old.seats → (seat_of self.old device).view.gives < 2 ^ 38 }
         ensures given { IfOk result (λ ordinal.
-            (self.new ≡ with_seat self.old device (given ordinal))
+            (self.new ≡ with_seat self.old device (seat_given ordinal))
             × (device < length self.old.seats)
             × KnowsOpen (seat_of self.old device).view
             × IsAbove ordinal (seat_of self.old device).view.ordinals) }
         ensures no_device { IfErr result (λ e. e ≡ GetRefusal.NoDevice →
             (self.new ≡ self.old) × (length self.old.seats ≤ device)) }
         ensures shut { IfErr result (λ e. e ≡ GetRefusal.Shut →
-            (self.new ≡ with_seat self.old device not_given) × (device < length self.old.seats)) }
+            (self.new ≡ with_seat self.old device seat_not_given) × (device < length self.old.seats)) }
     {
         if device as usize >= self.seats.len() {
             return Err(GetRefusal::NoDevice);
@@ -85,8 +85,8 @@ impl DeviceRow {
     pub fn look(&mut self, device: u32) -> Look
         requires { device < length self.old.seats }
         ensures usable { result ≡ Look.Usable →
-            (self.new ≡ with_seat self.old device usable) × KnowsOpen (seat_of self.old device).view }
-        ensures shut { result ≡ Look.Shut → self.new ≡ with_seat self.old device (λ e. found (looked e)) }
+            (self.new ≡ with_seat self.old device seat_usable) × KnowsOpen (seat_of self.old device).view }
+        ensures shut { result ≡ Look.Shut → self.new ≡ with_seat self.old device (λ e. seat_found (seat_looked e)) }
     {
         self.seats[device as usize].look()
     }
@@ -95,7 +95,7 @@ impl DeviceRow {
     pub fn destroy(&mut self, device: u32)
         requires device { device < length self.old.seats }
         requires channel { (seat_of self.old device).view.channel ≡ 1 }
-        ensures { self.new ≡ with_seat self.old device destroyed }
+        ensures { self.new ≡ with_seat self.old device seat_destroyed }
     {
         self.seats[device as usize].release();
     }
@@ -108,8 +108,8 @@ impl DeviceRow {
         requires device { device < length self.old.seats }
         requires visit { (seat_of self.old device).view.visit ≡ 0 }
         ensures held { result ≡ Hold.Held →
-            (self.new ≡ with_seat self.old device visiting) × KnowsOpen (seat_of self.old device).view }
-        ensures shut { result ≡ Hold.Shut → self.new ≡ with_seat self.old device found }
+            (self.new ≡ with_seat self.old device seat_visiting) × KnowsOpen (seat_of self.old device).view }
+        ensures shut { result ≡ Hold.Shut → self.new ≡ with_seat self.old device seat_found }
     {
         self.seats[device as usize].hold()
     }
@@ -118,7 +118,7 @@ impl DeviceRow {
     pub fn end_visit(&mut self, device: u32)
         requires device { device < length self.old.seats }
         requires visit { (seat_of self.old device).view.visit ≡ 1 }
-        ensures { self.new ≡ with_seat self.old device not_visiting }
+        ensures { self.new ≡ with_seat self.old device seat_not_visiting }
     {
         self.seats[device as usize].unhold();
     }
@@ -132,12 +132,12 @@ impl DeviceRow {
         requires { device < length self.old.seats }
         ensures began { IfOk result (λ given.
             (opens : ℕ)
-            × (self.new ≡ with_seat self.old device (began given opens))
+            × (self.new ≡ with_seat self.old device (seat_began given opens))
             × KnowsOpen (seat_of self.old device).view
             × (length (seat_of self.old device).view.ordinals ≤ given)
             × ((seat_of self.old device).view.opens ≤ opens)
             × IsAbove given (seat_of self.old device).view.ordinals) }
-        ensures already { IfErr result (λ _. self.new ≡ with_seat self.old device found) }
+        ensures already { IfErr result (λ _. self.new ≡ with_seat self.old device seat_found) }
     {
         match self.seats[device as usize].shut() {
             Shutting::Began { given } => Ok(given),
@@ -155,11 +155,11 @@ impl DeviceRow {
         requires began { (1 ≤ (seat_of self.old device).view.begun)
             × ((seat_of self.old device).began_by ≡ (seat_of self.old device).number) }
         ensures fired { result ≡ Firing.Fired →
-            (self.new ≡ with_seat self.old device fired)
+            (self.new ≡ with_seat self.old device seat_fired)
             × ((seat_of self.old device).view.fired ≡ 0)
-            × (held (seat_of self.old device).view ≡ 0) }
+            × (held_count (seat_of self.old device).view ≡ 0) }
         ensures not_yet { (seen : ℕ) → result ≡ Firing.NotYet seen →
-            (self.new ≡ with_seat self.old device (tried seen))
+            (self.new ≡ with_seat self.old device (seat_tried seen))
             × (seen ≢ closing_word (seat_of self.old device).view.count) }
     {
         self.seats[device as usize].fire()

@@ -8,7 +8,7 @@ use Rattle.atomic_table.specs.Table.{keeps, step, Allows, Splits, Joins}
 use Rattle.atomic_table.proofs.Lists.{at_set, at_snoc, set_else}
 use Rattle.lw_latch.specs.declared.device_view.DeviceView.{DeviceView}
 use Rattle.lw_base.specs.Totals.{total}
-use Rattle.lw_latch.specs.DeviceWord.{seats, given, backing, begun, count, opens, opens_then, fired, held, opened, times, times_given, device_word, Suits, Tied, idle_view, one_seat, less_one_seat, both_views, spent_device, IsWhole, LearnsAll}
+use Rattle.lw_latch.specs.DeviceWord.{seats, given_count, backing_count, begun_count, count, opens, opens_then, fired_count, held_count, open_count, times, times_given, device_word, Suits, Tied, idle_view, one_seat, less_one_seat, both_views, spent_device, IsWhole, LearnsAll}
 use Rattle.lw_base.proofs.Totals.{total_set, total_snoc, total_only, others_none, at_le}
 use Rattle.lw_latch.proofs.DeviceMoves.{St, Sat, bounded, reads, moved}
 
@@ -26,25 +26,25 @@ splits all id v some_seats idle s h at =
     let u : DeviceView = one_seat v in
     let vs : List DeviceView = set s.views id w in
     let ts = total_set seats s.views id v w at in
-    let tg = total_set given s.views id v w at in
-    let tk = total_set backing s.views id v w at in
-    let tb = total_set begun s.views id v w at in
+    let tg = total_set given_count s.views id v w at in
+    let tk = total_set backing_count s.views id v w at in
+    let tb = total_set begun_count s.views id v w at in
     let tc = total_set count s.views id v w at in
     let tn = total_set opens s.views id v w at in
     let tm = total_set opens_then s.views id v w at in
-    let tf = total_set fired s.views id v w at in
-    let th = total_set held s.views id v w at in
-    let to = total_set opened s.views id v w at in
+    let tf = total_set fired_count s.views id v w at in
+    let th = total_set held_count s.views id v w at in
+    let to = total_set open_count s.views id v w at in
     let ns = total_snoc seats vs u in
-    let ng = total_snoc given vs u in
-    let nk = total_snoc backing vs u in
-    let nb = total_snoc begun vs u in
+    let ng = total_snoc given_count vs u in
+    let nk = total_snoc backing_count vs u in
+    let nb = total_snoc begun_count vs u in
     let nc = total_snoc count vs u in
     let nn = total_snoc opens vs u in
     let nm = total_snoc opens_then vs u in
-    let nf = total_snoc fired vs u in
-    let nh = total_snoc held vs u in
-    let no = total_snoc opened vs u in
+    let nf = total_snoc fired_count vs u in
+    let nh = total_snoc held_count vs u in
+    let no = total_snoc open_count vs u in
     let a = h.all_seats in
     let once = h.one_begun in
     let f = h.each id v at in
@@ -53,8 +53,8 @@ splits all id v some_seats idle s h at =
     let no_backing = ap (λ (x : DeviceView). x.backing) idle in
     let no_leaving = ap (λ (x : DeviceView). x.leaving) idle in
     let no_begun = ap (λ (x : DeviceView). x.begun) idle in
-    let none_given = ap given idle in
-    let same : total begun (vs ++ u ∷ []) ≡ total begun s.views = omega arith in
+    let none_given = ap given_count idle in
+    let same : total begun_count (vs ++ u ∷ []) ≡ total begun_count s.views = omega arith in
     let again : (k : ℕ) → total (times_given k) (vs ++ u ∷ []) ≡ total (times_given k) s.views = λ k. (let t = total_set (times_given k) s.views id v w at in let n = total_snoc (times_given k) vs u in omega arith) in
     record {
       few = h.few;
@@ -68,7 +68,7 @@ splits all id v some_seats idle s h at =
       none_else = λ k l. again k ∙ h.none_else k (omega arith);
       each = λ j y e. subst (λ k. Suits all k y) (sym same) (⊎_elim
           (λ (here : get_elem? vs j ≡ some y). ⊎_elim
-          (λ (x : (j ≡ id) × (w ≡ y)). subst (λ z. Suits all (total begun s.views) z) x.1
+          (λ (x : (j ≡ id) × (w ≡ y)). subst (λ z. Suits all (total begun_count s.views) z) x.1
           (record {
             of_latch = λ _. f.of_latch (omega arith);
             one_channel = omega arith;
@@ -84,7 +84,7 @@ splits all id v some_seats idle s h at =
           }))
           (λ (x : (j ≢ id) × (get_elem? s.views j ≡ some y)). h.each j y x.1)
           (at_set s.views id j w y here))
-          (λ (new : u ≡ y). subst (λ z. Suits all (total begun s.views) z) new
+          (λ (new : u ≡ y). subst (λ z. Suits all (total begun_count s.views) z) new
           (record {
             of_latch = λ _. f.of_latch (omega arith);
             one_channel = omega arith;
@@ -114,36 +114,36 @@ joins all id v other u some_v some_u s h at apart there =
     let new : List DeviceView = set vs other spent_device in
     let was : get_elem? s.views other ≡ some u = ⊎_elim (λ (x : (other ≡ id) × (w ≡ u)). absurd (apart x.0)) (λ (x : (other ≢ id) × (get_elem? s.views other ≡ some u)). x.1) (at_set s.views id other w u there) in
     let ts = total_set seats s.views id v w at in
-    let tg = total_set given s.views id v w at in
-    let tk = total_set backing s.views id v w at in
-    let tb = total_set begun s.views id v w at in
+    let tg = total_set given_count s.views id v w at in
+    let tk = total_set backing_count s.views id v w at in
+    let tb = total_set begun_count s.views id v w at in
     let tc = total_set count s.views id v w at in
     let tn = total_set opens s.views id v w at in
     let tm = total_set opens_then s.views id v w at in
-    let tf = total_set fired s.views id v w at in
-    let th = total_set held s.views id v w at in
-    let to = total_set opened s.views id v w at in
+    let tf = total_set fired_count s.views id v w at in
+    let th = total_set held_count s.views id v w at in
+    let to = total_set open_count s.views id v w at in
     let ns = total_set seats vs other u spent_device there in
-    let ng = total_set given vs other u spent_device there in
-    let nk = total_set backing vs other u spent_device there in
-    let nb = total_set begun vs other u spent_device there in
+    let ng = total_set given_count vs other u spent_device there in
+    let nk = total_set backing_count vs other u spent_device there in
+    let nb = total_set begun_count vs other u spent_device there in
     let nc = total_set count vs other u spent_device there in
     let nn = total_set opens vs other u spent_device there in
     let nm = total_set opens_then vs other u spent_device there in
-    let nf = total_set fired vs other u spent_device there in
-    let nh = total_set held vs other u spent_device there in
-    let no = total_set opened vs other u spent_device there in
+    let nf = total_set fired_count vs other u spent_device there in
+    let nh = total_set held_count vs other u spent_device there in
+    let no = total_set open_count vs other u spent_device there in
     let a = h.all_seats in
     let once = h.one_begun in
     let f = h.each id v at in
     let g = h.each other u was in
-    let without = total_set begun s.views id v spent_device at in
-    let left = at_le begun (set s.views id spent_device) other u (set_else s.views id other spent_device apart ∙ was) in
+    let without = total_set begun_count s.views id v spent_device at in
+    let left = at_le begun_count (set s.views id spent_device) other u (set_else s.views id other spent_device apart ∙ was) in
     let both_once : v.begun + u.begun ≤ 1 = omega arith in
     let counted = known_by_one count v u both_once (λ z. (f.counts z).0) (λ z. (g.counts z).0) in
     let known = known_by_one opens_then v u both_once (λ z. (f.counts z).1) (λ z. (g.counts z).1) in
     let long = length-append v.ordinals u.ordinals in
-    let same : total begun new ≡ total begun s.views = omega arith in
+    let same : total begun_count new ≡ total begun_count s.views = omega arith in
     let again : (k : ℕ) → total (times_given k) new ≡ total (times_given k) s.views =
     λ k. (let t = total_set (times_given k) s.views id v w at in let n = total_set (times_given k) vs other u spent_device there in let e = times_append k v.ordinals u.ordinals in omega arith) in
     record {
@@ -157,7 +157,7 @@ joins all id v other u some_v some_u s h at apart there =
       once = λ k l. again k ∙ h.once k (omega arith);
       none_else = λ k l. again k ∙ h.none_else k (omega arith);
       each = λ j y e. subst (λ k. Suits all k y) (sym same) (⊎_elim
-          (λ (x : (j ≡ other) × (spent_device ≡ y)). subst (λ z. Suits all (total begun s.views) z) x.1
+          (λ (x : (j ≡ other) × (spent_device ≡ y)). subst (λ z. Suits all (total begun_count s.views) z) x.1
           (record {
             of_latch = λ z. absurd (omega arith);
             one_channel = omega arith;
@@ -172,7 +172,7 @@ joins all id v other u some_v some_u s h at apart there =
             backing_shut = λ _. refl;
           }))
           (λ (x : (j ≢ other) × (get_elem? vs j ≡ some y)). ⊎_elim
-          (λ (x' : (j ≡ id) × (w ≡ y)). subst (λ z. Suits all (total begun s.views) z) x'.1
+          (λ (x' : (j ≡ id) × (w ≡ y)). subst (λ z. Suits all (total begun_count s.views) z) x'.1
           (record {
             of_latch = λ _. f.of_latch some_v;
             one_channel = (let p = f.one_channel in let q = g.one_channel in omega arith);
@@ -193,21 +193,21 @@ joins all id v other u some_v some_u s h at apart there =
 
 -- where a view stands for all seats, no other has anything
 tells : (all : ℕ) (s : St) (id : ℕ) (v : DeviceView) → Tied all s → get_elem? s.views id ≡ some v → 1 ≤ v.seats → v.seats ≡ v.all
-    → (slice_index s.words 0 ≡ device_word (v ∷ [])) × (opened v < 65536) × IsWhole v
+    → (slice_index s.words 0 ≡ device_word (v ∷ [])) × (open_count v < 65536) × IsWhole v
 tells all s id v h at some_seat has_all =
     let f = h.each id v at in
     let of = f.of_latch some_seat in
     let a = h.all_seats in
     let none : (j : ℕ) (u : DeviceView) → j ≢ id → get_elem? s.views j ≡ some u → u.seats ≡ 0 = others_none seats s.views id v at (omega arith) in
-    let to = total_only opened s.views id v at (λ j u apart e. (let z = none j u apart e in let g = h.each j u e in let p = g.one_channel in let q = g.one_visit in omega arith)) in
-    let tk = total_only backing s.views id v at (λ j u apart e. (let z = none j u apart e in let p = (h.each j u e).one_channel in omega arith)) in
-    let th = total_only held s.views id v at (λ j u apart e. (let z = none j u apart e in let g = h.each j u e in let p = g.one_channel in let q = g.one_visit in omega arith)) in
-    let tg = total_only given s.views id v at (λ j u apart e. ((h.each j u e).none_given (none j u apart e)).0) in
+    let to = total_only open_count s.views id v at (λ j u apart e. (let z = none j u apart e in let g = h.each j u e in let p = g.one_channel in let q = g.one_visit in omega arith)) in
+    let tk = total_only backing_count s.views id v at (λ j u apart e. (let z = none j u apart e in let p = (h.each j u e).one_channel in omega arith)) in
+    let th = total_only held_count s.views id v at (λ j u apart e. (let z = none j u apart e in let g = h.each j u e in let p = g.one_channel in let q = g.one_visit in omega arith)) in
+    let tg = total_only given_count s.views id v at (λ j u apart e. ((h.each j u e).none_given (none j u apart e)).0) in
     let tn = total_only opens s.views id v at (λ j u apart e. ((h.each j u e).none_given (none j u apart e)).1) in
-    let tb = total_only begun s.views id v at (λ j u apart e. (let z = none j u apart e in let p = (h.each j u e).began in omega arith)) in
+    let tb = total_only begun_count s.views id v at (λ j u apart e. (let z = none j u apart e in let p = (h.each j u e).began in omega arith)) in
     let tc = total_only count s.views id v at (λ j u apart e. (let z = none j u apart e in let g = h.each j u e in let p = g.began in (g.counts (omega arith)).0)) in
     let tm = total_only opens_then s.views id v at (λ j u apart e. (let z = none j u apart e in let g = h.each j u e in let p = g.began in (g.counts (omega arith)).1)) in
-    let tf = total_only fired s.views id v at (λ j u apart e. (let z = none j u apart e in let g = h.each j u e in let p = g.began in let q = g.fired_begun in omega arith)) in
+    let tf = total_only fired_count s.views id v at (λ j u apart e. (let z = none j u apart e in let g = h.each j u e in let p = g.began in let q = g.fired_begun in omega arith)) in
     let tt' : (k : ℕ) → total (times_given k) s.views ≡ times k v.ordinals = λ k. total_only (times_given k) s.views id v at (λ j u apart e. times_none k u.ordinals ((h.each j u e).none_given (none j u apart e)).0) in
     let is = (reads all s h).is in
     let few = (bounded all s h).few_open in
@@ -216,7 +216,7 @@ tells all s id v h at some_seat has_all =
       (omega arith),
       record {
         ordinals = record { once = λ k l. sym (tt' k) ∙ h.once k (omega arith); none_else = λ k l. sym (tt' k) ∙ h.none_else k (omega arith) };
-        found = λ some_found. dite (ℕ_discrete (total begun s.views) 0) (λ z. absurd (let p = f.found_shut z in omega arith)) (λ nz. omega arith);
+        found = λ some_found. dite (ℕ_discrete (total begun_count s.views) 0) (λ z. absurd (let p = f.found_shut z in omega arith)) (λ nz. omega arith);
         begun = omega arith;
         settled = λ z. (let o = h.settled (omega arith) in omega arith);
         before = λ z. (let o = h.before (omega arith) in omega arith);
@@ -236,7 +236,7 @@ learns all slots id me s h _ at small =
     )
 
 -- the parts of the word of one view that stands for all
-pub word_parts : (v : DeviceView) (word : ℕ) → v.backing ≡ 0 → word ≡ device_word (v ∷ []) → opened v < 65536 → IsWhole v
+pub word_parts : (v : DeviceView) (word : ℕ) → v.backing ≡ 0 → word ≡ device_word (v ∷ []) → open_count v < 65536 → IsWhole v
     → (word / 262144 ≡ length v.ordinals) × ((eqb (word / 131072 % 2) 1 ≡ true → v.fired ≡ 1) × (eqb (word / 131072 % 2) 1 ≡ false → v.fired ≡ 0))
 word_parts v word none_back is few whole =
     let once = whole.begun in

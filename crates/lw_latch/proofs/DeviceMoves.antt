@@ -8,7 +8,7 @@ use Rattle.atomic_table.specs.Table.{State, Me, keeps, stepped, opening}
 use Rattle.atomic_table.proofs.Lists.{at_set, at_snoc}
 use Rattle.lw_latch.specs.declared.device_view.DeviceView.{DeviceView}
 use Rattle.lw_base.specs.Totals.{total}
-use Rattle.lw_latch.specs.DeviceWord.{seats, given, backing, begun, count, opens, opens_then, fired, held, opened, times, times_given, device_word, Suits, Tied, first_view, shut_bit}
+use Rattle.lw_latch.specs.DeviceWord.{seats, given_count, backing_count, begun_count, count, opens, opens_then, fired_count, held_count, open_count, times, times_given, device_word, Suits, Tied, first_view, shut_bit}
 use Rattle.lw_base.proofs.Totals.{total_set, total_le, total_scaled, total_zero}
 
 abbrev pub St : Type 0
@@ -19,31 +19,31 @@ Sat = Me (Unit {0}) DeviceView
 
 -- the bounds that the rule gives
 pub record Bounded (vs : List DeviceView) : Type 0 where
-  pub few_open : total opened vs ≤ 254
-  pub few_backing : total backing vs ≤ 127
-  pub few_given : total given vs ≤ 34909494181888
-  pub fired_begun : total fired vs ≤ total begun vs
-  pub held_opened : total held vs ≤ total opened vs
+  pub few_open : total open_count vs ≤ 254
+  pub few_backing : total backing_count vs ≤ 127
+  pub few_given : total given_count vs ≤ 34909494181888
+  pub fired_begun : total fired_count vs ≤ total begun_count vs
+  pub held_opened : total held_count vs ≤ total open_count vs
 
 pub bounded : (all : ℕ) (s : St) → Tied all s → Bounded s.views
 bounded all s h =
     let vs = s.views in
     let some_all = h.all_seats in
     let few = h.few in
-    let o = total_le opened (λ v. 2 * v.seats) vs (λ i v e. (let f = h.each i v e in let a = f.one_channel in let b = f.one_visit in omega arith)) in
+    let o = total_le open_count (λ v. 2 * v.seats) vs (λ i v e. (let f = h.each i v e in let a = f.one_channel in let b = f.one_visit in omega arith)) in
     let os = total_scaled 2 seats vs in
-    let b = total_le backing seats vs (λ i v e. (let a = (h.each i v e).one_channel in omega arith)) in
-    let g = total_le given (λ v. 274877906944 * v.seats) vs (λ i v e. given_few v (h.each i v e)) in
+    let b = total_le backing_count seats vs (λ i v e. (let a = (h.each i v e).one_channel in omega arith)) in
+    let g = total_le given_count (λ v. 274877906944 * v.seats) vs (λ i v e. given_few v (h.each i v e)) in
     let gs = total_scaled 274877906944 seats vs in
     record {
       few_open = omega arith;
       few_backing = omega arith;
       few_given = omega arith;
-      fired_begun = total_le fired begun vs (λ i v e. (h.each i v e).fired_begun);
-      held_opened = total_le held opened vs (λ i v e. omega arith);
+      fired_begun = total_le fired_count begun_count vs (λ i v e. (h.each i v e).fired_begun);
+      held_opened = total_le held_count open_count vs (λ i v e. omega arith);
     }
   where
-    given_few : (v : DeviceView) → Suits all (total begun s.views) v → given v ≤ 274877906944 * v.seats
+    given_few : (v : DeviceView) → Suits all (total begun_count s.views) v → given_count v ≤ 274877906944 * v.seats
     given_few v f = dite (ℕ_discrete v.seats 0)
         (λ none. (let z = (f.none_given none).0 in omega arith))
         (λ some_seat. (let g = f.few_given (omega arith) in let c = f.few_gives in omega arith))
@@ -52,17 +52,17 @@ pub word_found : (all : ℕ) (s : St) → Tied all s → slice_index s.words 0 �
 word_found all s h = ap (λ l. slice_index l 0) h.word
 
 -- before the latch is shut nobody takes anything back
-pub none_backing : (all : ℕ) (s : St) → Tied all s → total begun s.views ≡ 0 → total backing s.views ≡ 0
-none_backing all s h unshut = total_zero backing s.views (λ i v e. (let b = (h.each i v e).backing_shut unshut in omega arith))
+pub none_backing : (all : ℕ) (s : St) → Tied all s → total begun_count s.views ≡ 0 → total backing_count s.views ≡ 0
+none_backing all s h unshut = total_zero backing_count s.views (λ i v e. (let b = (h.each i v e).backing_shut unshut in omega arith))
 
 -- what a word's parts are
 pub record Read (all : ℕ) (s : St) (n : ℕ) : Type 0 where
   pub is : n ≡ device_word s.views
-  pub bit : shut_bit n ≡ total begun s.views
+  pub bit : shut_bit n ≡ total begun_count s.views
   pub fits : n < 9223372036854775808
-  pub unshut : total begun s.views ≡ 0 → n / 262144 ≡ total given s.views
-  pub unbacked : total begun s.views ≡ 0 → total backing s.views ≡ 0
-  pub unfired : total begun s.views ≡ 0 → total fired s.views ≡ 0
+  pub unshut : total begun_count s.views ≡ 0 → n / 262144 ≡ total given_count s.views
+  pub unbacked : total begun_count s.views ≡ 0 → total backing_count s.views ≡ 0
+  pub unfired : total begun_count s.views ≡ 0 → total fired_count s.views ≡ 0
 
 pub reads : (all : ℕ) (s : St) → Tied all s → Read all s (slice_index s.words 0)
 reads all s h =
@@ -86,28 +86,28 @@ reads all s h =
 -- one view changes in what it has open, or in what it knows
 pub moved : (all : ℕ) (s : St) (id : ℕ) (v w : DeviceView) (n : ℕ) (c : List (ℕ × Unit {0})) → Tied all s → get_elem? s.views id ≡ some v
     → w.seats ≡ v.seats → w.ordinals ≡ v.ordinals → w.begun ≡ v.begun → w.count ≡ v.count → w.opens_then ≡ v.opens_then → w.fired ≡ v.fired
-    → n + opened v + 262144 * v.backing ≡ device_word s.views + opened w + 262144 * w.backing
-    → (1 ≤ total begun s.views → (held w ≤ held v) × (w.opens ≡ v.opens))
-    → Suits all (total begun s.views) w
+    → n + open_count v + 262144 * v.backing ≡ device_word s.views + open_count w + 262144 * w.backing
+    → (1 ≤ total begun_count s.views → (held_count w ≤ held_count v) × (w.opens ≡ v.opens))
+    → Suits all (total begun_count s.views) w
     → Tied all (stepped s 0 n id c w keeps)
 moved all s id v w n c h at p o be co ot fi is stays suits =
     let vs : List DeviceView = set s.views id w in
     let ts = total_set seats s.views id v w at in
-    let tg = total_set given s.views id v w at in
-    let tk = total_set backing s.views id v w at in
-    let tb = total_set begun s.views id v w at in
+    let tg = total_set given_count s.views id v w at in
+    let tk = total_set backing_count s.views id v w at in
+    let tb = total_set begun_count s.views id v w at in
     let tc = total_set count s.views id v w at in
     let tn = total_set opens s.views id v w at in
     let tm = total_set opens_then s.views id v w at in
-    let tf = total_set fired s.views id v w at in
-    let th = total_set held s.views id v w at in
-    let to = total_set opened s.views id v w at in
+    let tf = total_set fired_count s.views id v w at in
+    let th = total_set held_count s.views id v w at in
+    let to = total_set open_count s.views id v w at in
     let lg = ap length o in
     let a = h.all_seats in
     let once = h.one_begun in
     let b = (bounded all s h).fired_begun in
-    let same : total begun vs ≡ total begun s.views = omega arith in
-    let same_given : total given vs ≡ total given s.views = omega arith in
+    let same : total begun_count vs ≡ total begun_count s.views = omega arith in
+    let same_given : total given_count vs ≡ total given_count s.views = omega arith in
     let sum : n ≡ device_word vs = omega arith in
     let again : (k : ℕ) → total (times_given k) vs ≡ total (times_given k) s.views = λ k. (let t = total_set (times_given k) s.views id v w at in let e = ap (times k) o in omega arith) in
     record {
@@ -121,7 +121,7 @@ moved all s id v w n c h at p o be co ot fi is stays suits =
       once = λ k l. again k ∙ h.once k (omega arith);
       none_else = λ k l. again k ∙ h.none_else k (omega arith);
       each = λ j u e. subst (λ k. Suits all k u) (sym same)
-          (⊎_elim (λ (x : (j ≡ id) × (w ≡ u)). subst (λ y. Suits all (total begun s.views) y) x.1 suits) (λ (x : (j ≢ id) × (get_elem? s.views j ≡ some u)). h.each j u x.1) (at_set s.views id j w u e));
+          (⊎_elim (λ (x : (j ≡ id) × (w ≡ u)). subst (λ y. Suits all (total begun_count s.views) y) x.1 suits) (λ (x : (j ≢ id) × (get_elem? s.views j ≡ some u)). h.each j u x.1) (at_set s.views id j w u e));
     }
 
 pub begins : (all : ℕ) → all ≤ 127 → Tied all (opening (0 ∷ []) [] (first_view all))

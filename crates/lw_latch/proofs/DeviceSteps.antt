@@ -1,21 +1,19 @@
 -- Each kind of step keeps the rule of a device's latch.
-use Rattle.std.proofs.Common.{◌≡◌, ◌≢◌, ℕ, ◌+◌, ◌-◌, ◌/◌, ◌%◌, ◌^◌, ◌<◌, ◌≤◌, if◌then◌else◌, eqb, List, [], ◌∷◌, ◌++◌, set, refl, sym, ap, ◌∙◌, subst, ⊎_elim, arith, slice_index, eq-eqb, ne_eqb, bit_or, length-append}
+use Rattle.std.proofs.Common.{◌≡◌, ◌≢◌, ℕ, ◌+◌, ◌-◌, ◌/◌, ◌%◌, ◌^◌, ◌<◌, ◌≤◌, if◌then◌else◌, List, [], ◌∷◌, ◌++◌, set, refl, sym, ap, ◌∙◌, subst, ⊎_elim, arith, slice_index, eq-eqb, ne_eqb, length-append}
 use mathlib.Core.Option.{none, some}
 use mathlib.Core.Logic.{dite}
 use native.Mathlib.Decide.{ℕ_discrete}
 use lib.ListN.{get_elem?}
-use prog.Atomic.{either}
 use Rattle.atomic_table.specs.Table.{keeps, step, stepped, Allows}
 use Rattle.atomic_table.proofs.Lists.{at_set}
 use Rattle.lw_latch.specs.declared.device_view.DeviceView.{DeviceView}
 use Rattle.lw_base.specs.Totals.{total}
-use Rattle.lw_latch.specs.DeviceWord.{seats, given, backing, begun, count, opens, opens_then, fired, held, opened, times, times_given, device_word, Suits, Tied, shut_bit, closing_word, view_given, view_not_given, view_visiting, view_usable, view_found, view_begun, view_fired, view_tried, Gives, TakesBack, Holds, LetsGo, Releases, Unholds, LooksAtShut, Begins, TriesToFire}
-use Rattle.lw_base.proofs.Totals.{total_set, at_le, total_zero}
-use Rattle.lw_latch.proofs.ShutBit.{sets_shut, keeps_shut}
+use Rattle.lw_latch.specs.DeviceWord.{seats, given_count, backing_count, begun_count, fired_count, open_count, times, times_given, device_word, Suits, Tied, shut_bit, view_given, view_not_given, view_visiting, view_usable, view_found, Gives, TakesBack, Holds, LetsGo, Releases, Unholds, LooksAtShut}
+use Rattle.lw_base.proofs.Totals.{total_set, at_le}
 use Rattle.lw_latch.proofs.DeviceMoves.{St, Sat, bounded, reads, moved}
 
 -- what stands of a view whose calls and finds alone grow, where the latch is shut
-grown : (all shut : ℕ) (v : DeviceView) (g l f t n : ℕ) → Suits all shut v → shut ≢ 0 → v.gives ≤ g → g ≤ 274877906944
+pub grown : (all shut : ℕ) (v : DeviceView) (g l f t n : ℕ) → Suits all shut v → shut ≢ 0 → v.gives ≤ g → g ≤ 274877906944
     → Suits all shut (record v { gives = g; looks = l; found = f; tries = t; seen = n })
 grown all shut v g l f t n s is_shut more few =
     record {
@@ -69,24 +67,24 @@ found_open all shut v l s some_seat =
 
 -- one more channel is given, of an open latch
 gives_one : (all : ℕ) (s : St) (id : ℕ) (v : DeviceView) (n m : ℕ) (c : List (ℕ × Unit {0})) → Tied all s → get_elem? s.views id ≡ some v
-    → total begun s.views ≡ 0 → 1 ≤ v.seats → v.channel ≡ 0 → v.gives < 274877906944 → n ≡ device_word s.views + 262145 → m ≡ total given s.views
+    → total begun_count s.views ≡ 0 → 1 ≤ v.seats → v.channel ≡ 0 → v.gives < 274877906944 → n ≡ device_word s.views + 262145 → m ≡ total given_count s.views
     → Tied all (stepped s 0 n id c (view_given m v) keeps)
 gives_one all s id v n m c h at unshut some_seat free room is next =
     let w : DeviceView = view_given m v in
     let vs : List DeviceView = set s.views id w in
     let ts = total_set seats s.views id v w at in
-    let tg = total_set given s.views id v w at in
-    let tk = total_set backing s.views id v w at in
-    let tb = total_set begun s.views id v w at in
-    let tf = total_set fired s.views id v w at in
-    let to = total_set opened s.views id v w at in
+    let tg = total_set given_count s.views id v w at in
+    let tk = total_set backing_count s.views id v w at in
+    let tb = total_set begun_count s.views id v w at in
+    let tf = total_set fired_count s.views id v w at in
+    let to = total_set open_count s.views id v w at in
     let long = length-append v.ordinals (m ∷ []) in
     let a = h.all_seats in
     let unfired = (bounded all s h).fired_begun in
     let f = h.each id v at in
     let back = f.backing_shut unshut in
-    let same : total begun vs ≡ total begun s.views = omega arith in
-    let more : total given vs ≡ total given s.views + 1 = omega arith in
+    let same : total begun_count vs ≡ total begun_count s.views = omega arith in
+    let more : total given_count vs ≡ total given_count s.views + 1 = omega arith in
     let sum : n ≡ device_word vs = omega arith in
     record {
       few = h.few;
@@ -102,7 +100,7 @@ gives_one all s id v n m c h at unshut some_seat free room is next =
       none_else = λ k l. (let t = total_set (times_given k) s.views id v w at in let e = times_snoc k m v.ordinals in let o = h.none_else k (omega arith) in let x = e.1 (λ here. omega arith) in omega arith);
       each = λ j u e. subst (λ k. Suits all k u) (sym same)
           (⊎_elim
-          (λ (x : (j ≡ id) × (w ≡ u)). subst (λ y. Suits all (total begun s.views) y) x.1
+          (λ (x : (j ≡ id) × (w ≡ u)). subst (λ y. Suits all (total begun_count s.views) y) x.1
           (record {
             of_latch = f.of_latch;
             one_channel = omega arith;
@@ -141,14 +139,14 @@ gives all slots id me some_seat free idle room s h _ at small =
       keeps,
       tt,
       gives_one all s id v ((n + 262145) % 18446744073709551616) (n / 262144) me.1 h at (omega arith) some_seat free room (omega arith) (r.unshut (omega arith)),
-      ((λ _. (refl, (f.found_shut (omega arith), (let b = at_le begun s.views id v at in omega arith)), λ k l. (let z = h.none_else k (let g = r.unshut (omega arith) in omega arith) in let t = at_le (times_given k) s.views id v at in omega arith))), λ shut. absurd (shut unshut)),
+      ((λ _. (refl, (f.found_shut (omega arith), (let b = at_le begun_count s.views id v at in omega arith)), λ k l. (let z = h.none_else k (let g = r.unshut (omega arith) in omega arith) in let t = at_le (times_given k) s.views id v at in omega arith))), λ shut. absurd (shut unshut)),
     ))
     (λ shut. (
       record (view_not_given v) { backing = 1 },
       keeps,
       tt,
       moved all s id v (record (view_not_given v) { backing = 1 }) ((n + 262145) % 18446744073709551616) me.1 h at refl refl refl refl refl refl (omega arith) (λ _. (omega arith, refl))
-          (changed all (total begun s.views) (view_not_given v) v.channel v.visit 1 v.leaving (grown all (total begun s.views) v (v.gives + 1) v.looks (v.found + 1) v.tries v.seen f (λ z. shut (omega arith)) (omega arith) (omega arith)) (omega arith) f.one_visit (λ z. absurd (shut (omega arith)))),
+          (changed all (total begun_count s.views) (view_not_given v) v.channel v.visit 1 v.leaving (grown all (total begun_count s.views) v (v.gives + 1) v.looks (v.found + 1) v.tries v.seen f (λ z. shut (omega arith)) (omega arith) (omega arith)) (omega arith) f.one_visit (λ z. absurd (shut (omega arith)))),
       ((λ unshut. absurd (shut unshut)), λ _. refl),
     ))
 
@@ -161,13 +159,13 @@ takes_back all slots id me back s h _ at small =
     let is = r.is in
     let fits = r.fits in
     let f = h.each id v at in
-    let there = at_le opened s.views id v at in
-    let backs = at_le backing s.views id v at in (
+    let there = at_le open_count s.views id v at in
+    let backs = at_le backing_count s.views id v at in (
       record v { backing = 0 },
       keeps,
       tt,
       moved all s id v (record v { backing = 0 }) ((n + 18446744073709289471) % 18446744073709551616) me.1 h at refl refl refl refl refl refl (omega arith) (λ _. (omega arith, refl))
-          (changed all (total begun s.views) v v.channel v.visit 0 v.leaving f (let c = f.one_channel in omega arith) f.one_visit (λ z. (let b = f.backing_shut z in omega arith))),
+          (changed all (total begun_count s.views) v v.channel v.visit 0 v.leaving f (let c = f.one_channel in omega arith) f.one_visit (λ z. (let b = f.backing_shut z in omega arith))),
       refl,
     )
 
@@ -187,15 +185,15 @@ holds all slots id me some_seat free idle s h _ at small =
       keeps,
       tt,
       moved all s id v (view_visiting v) ((n + 1) % 18446744073709551616) me.1 h at refl refl refl refl refl refl (omega arith) (λ z. absurd (omega arith))
-          (changed all (total begun s.views) (record v { opens = v.opens + 1 }) v.channel 1 v.backing v.leaving (found_open all (total begun s.views) v v.looks f some_seat) f.one_channel (omega arith) f.backing_shut),
-      ((λ _. (refl, (f.found_shut (omega arith), (let b = at_le begun s.views id v at in omega arith)))), λ shut. absurd (shut unshut)),
+          (changed all (total begun_count s.views) (record v { opens = v.opens + 1 }) v.channel 1 v.backing v.leaving (found_open all (total begun_count s.views) v v.looks f some_seat) f.one_channel (omega arith) f.backing_shut),
+      ((λ _. (refl, (f.found_shut (omega arith), (let b = at_le begun_count s.views id v at in omega arith)))), λ shut. absurd (shut unshut)),
     ))
     (λ shut. (
       record (view_found v) { leaving = 1 },
       keeps,
       tt,
       moved all s id v (record (view_found v) { leaving = 1 }) ((n + 1) % 18446744073709551616) me.1 h at refl refl refl refl refl refl (omega arith) (λ _. (omega arith, refl))
-          (changed all (total begun s.views) (view_found v) v.channel v.visit v.backing 1 (grown all (total begun s.views) v v.gives v.looks (v.found + 1) v.tries v.seen f (λ z. shut (omega arith)) (omega arith) f.few_gives) f.one_channel (omega arith) (λ z. absurd (shut (omega arith)))),
+          (changed all (total begun_count s.views) (view_found v) v.channel v.visit v.backing 1 (grown all (total begun_count s.views) v v.gives v.looks (v.found + 1) v.tries v.seen f (λ z. shut (omega arith)) (omega arith) f.few_gives) f.one_channel (omega arith) (λ z. absurd (shut (omega arith)))),
       ((λ unshut. absurd (shut unshut)), λ _. refl),
     ))
 
@@ -208,12 +206,12 @@ lets_go all slots id me leaves s h _ at small =
     let is = r.is in
     let fits = r.fits in
     let f = h.each id v at in
-    let there = at_le opened s.views id v at in (
+    let there = at_le open_count s.views id v at in (
       record v { leaving = 0 },
       keeps,
       tt,
       moved all s id v (record v { leaving = 0 }) ((n + 18446744073709551615) % 18446744073709551616) me.1 h at refl refl refl refl refl refl (omega arith) (λ _. (omega arith, refl))
-          (changed all (total begun s.views) v v.channel v.visit v.backing 0 f f.one_channel (let c = f.one_visit in omega arith) (λ z. (let b = f.backing_shut z in omega arith))),
+          (changed all (total begun_count s.views) v v.channel v.visit v.backing 0 f f.one_channel (let c = f.one_visit in omega arith) (λ z. (let b = f.backing_shut z in omega arith))),
       refl,
     )
 
@@ -226,12 +224,12 @@ releases all slots id me has s h _ at small =
     let is = r.is in
     let fits = r.fits in
     let f = h.each id v at in
-    let there = at_le opened s.views id v at in (
+    let there = at_le open_count s.views id v at in (
       record v { channel = 0 },
       keeps,
       tt,
       moved all s id v (record v { channel = 0 }) ((n + 18446744073709551615) % 18446744073709551616) me.1 h at refl refl refl refl refl refl (omega arith) (λ _. (omega arith, refl))
-          (changed all (total begun s.views) v 0 v.visit v.backing v.leaving f (let c = f.one_channel in omega arith) f.one_visit f.backing_shut),
+          (changed all (total begun_count s.views) v 0 v.visit v.backing v.leaving f (let c = f.one_channel in omega arith) f.one_visit f.backing_shut),
       refl,
     )
 
@@ -244,12 +242,12 @@ unholds all slots id me has s h _ at small =
     let is = r.is in
     let fits = r.fits in
     let f = h.each id v at in
-    let there = at_le opened s.views id v at in (
+    let there = at_le open_count s.views id v at in (
       record v { visit = 0 },
       keeps,
       tt,
       moved all s id v (record v { visit = 0 }) ((n + 18446744073709551615) % 18446744073709551616) me.1 h at refl refl refl refl refl refl (omega arith) (λ _. (omega arith, refl))
-          (changed all (total begun s.views) v v.channel 0 v.backing v.leaving f f.one_channel (let c = f.one_visit in omega arith) f.backing_shut),
+          (changed all (total begun_count s.views) v v.channel 0 v.backing v.leaving f f.one_channel (let c = f.one_visit in omega arith) f.backing_shut),
       refl,
     )
 
@@ -267,183 +265,14 @@ looks all slots id me some_seat s h _ at small =
       keeps,
       tt,
       moved all s id v (view_usable v) n me.1 h at refl refl refl refl refl refl (omega arith) (λ z. absurd (omega arith))
-          (found_open all (total begun s.views) v (v.looks + 1) f some_seat),
-      ((λ _. (refl, (f.found_shut (omega arith), (let b = at_le begun s.views id v at in omega arith)))), λ shut. absurd (shut unshut)),
+          (found_open all (total begun_count s.views) v (v.looks + 1) f some_seat),
+      ((λ _. (refl, (f.found_shut (omega arith), (let b = at_le begun_count s.views id v at in omega arith)))), λ shut. absurd (shut unshut)),
     ))
     (λ shut. (
       record (view_found v) { looks = v.looks + 1 },
       keeps,
       tt,
       moved all s id v (record (view_found v) { looks = v.looks + 1 }) n me.1 h at refl refl refl refl refl refl (omega arith) (λ _. (omega arith, refl))
-          (grown all (total begun s.views) v v.gives (v.looks + 1) (v.found + 1) v.tries v.seen f (λ z. shut (omega arith)) (omega arith) f.few_gives),
+          (grown all (total begun_count s.views) v v.gives (v.looks + 1) (v.found + 1) v.tries v.seen f (λ z. shut (omega arith)) (omega arith) f.few_gives),
       ((λ unshut. absurd (shut unshut)), λ _. refl),
-    ))
-
--- an open latch is shut
-begins_one : (all : ℕ) (s : St) (id : ℕ) (v : DeviceView) (n m o : ℕ) (c : List (ℕ × Unit {0})) → Tied all s → get_elem? s.views id ≡ some v
-    → total begun s.views ≡ 0 → 1 ≤ v.seats → n ≡ device_word s.views + 65536 → m ≡ total given s.views → o ≡ total opens s.views
-    → Tied all (stepped s 0 n id c (view_begun m o v) keeps)
-begins_one all s id v n m o c h at unshut some_seat is told often =
-    let w : DeviceView = view_begun m o v in
-    let vs : List DeviceView = set s.views id w in
-    let ts = total_set seats s.views id v w at in
-    let tg = total_set given s.views id v w at in
-    let tk = total_set backing s.views id v w at in
-    let tb = total_set begun s.views id v w at in
-    let tc = total_set count s.views id v w at in
-    let tn = total_set opens s.views id v w at in
-    let tm = total_set opens_then s.views id v w at in
-    let tf = total_set fired s.views id v w at in
-    let th = total_set held s.views id v w at in
-    let to = total_set opened s.views id v w at in
-    let a = h.all_seats in
-    let mine = at_le begun s.views id v at in
-    let unfired = (bounded all s h).fired_begun in
-    let uncounted : total count s.views ≡ 0 = total_zero count s.views (λ i u e. ((h.each i u e).counts (let b = at_le begun s.views i u e in omega arith)).0) in
-    let mine_uncounted = at_le count s.views id v at in
-    let unknown : total opens_then s.views ≡ 0 = total_zero opens_then s.views (λ i u e. ((h.each i u e).counts (let b = at_le begun s.views i u e in omega arith)).1) in
-    let mine_unknown = at_le opens_then s.views id v at in
-    let f = h.each id v at in
-    let fb = f.fired_begun in
-    let sum : n ≡ device_word vs = omega arith in
-    record {
-      few = h.few;
-      all_seats = omega arith;
-      word = ap (λ l. set l 0 n) h.word ∙ ap (λ k. k ∷ []) sum;
-      one_begun = omega arith;
-      settled = λ _. omega arith;
-      before = λ _. omega arith;
-      quiet = λ z. absurd (omega arith);
-      once = λ k l. (let t = total_set (times_given k) s.views id v w at in let o = h.once k (omega arith) in omega arith);
-      none_else = λ k l. (let t = total_set (times_given k) s.views id v w at in let o = h.none_else k (omega arith) in omega arith);
-      each = λ j u e. ⊎_elim
-          (λ (x : (j ≡ id) × (w ≡ u)). subst (λ y. Suits all (total begun vs) y) x.1
-          (record {
-            of_latch = f.of_latch;
-            one_channel = f.one_channel;
-            one_visit = f.one_visit;
-            few_gives = f.few_gives;
-            few_given = f.few_given;
-            none_given = f.none_given;
-            began = some_seat;
-            counts = λ z. absurd (omega arith);
-            fired_begun = omega arith;
-            found_shut = λ z. absurd (omega arith);
-            backing_shut = λ z. absurd (omega arith);
-          }))
-          (λ (x : (j ≢ id) × (get_elem? s.views j ≡ some u)).
-          (let g = h.each j u x.1 in
-          record { of_latch = g.of_latch; one_channel = g.one_channel; one_visit = g.one_visit; few_gives = g.few_gives; few_given = g.few_given; none_given = g.none_given; began = g.began; counts = g.counts; fired_begun = g.fired_begun; found_shut = λ z. absurd (omega arith); backing_shut = λ z. absurd (omega arith) }))
-          (at_set s.views id j w u e);
-    }
-
-pub shuts : (all slots id : ℕ) (me : Sat) → 1 ≤ me.0.seats
-    → Allows (Tied all) slots id me 0 (λ n. bit_or n 65536) (Begins (step slots 0 65536 0 none) me)
-shuts all slots id me some_seat s h _ at small =
-    let v = me.0 in
-    let n : ℕ = slice_index s.words 0 in
-    let r = reads all s h in
-    let is = r.is in
-    let bit = r.bit in
-    let f = h.each id v at in
-    let mine = at_le begun s.views id v at in
-    dite (ℕ_discrete (shut_bit n) 0)
-    (λ unshut. (
-      view_begun (n / 262144) (total opens s.views) v,
-      keeps,
-      tt,
-      begins_one all s id v (bit_or n 65536) (n / 262144) (total opens s.views) me.1 h at (omega arith) some_seat (let o = sets_shut n unshut in omega arith) (r.unshut (omega arith)) refl,
-      ((λ _. (total opens s.views, refl, (f.found_shut (omega arith), omega arith), (let g = r.unshut (omega arith) in let t = at_le given s.views id v at in omega arith), at_le opens s.views id v at, λ k l. (let z = h.none_else k (let g = r.unshut (omega arith) in omega arith) in let t = at_le (times_given k) s.views id v at in omega arith))), λ shut. absurd (shut unshut)),
-    ))
-    (λ shut. (
-      view_found v,
-      keeps,
-      tt,
-      moved all s id v (view_found v) (bit_or n 65536) me.1 h at refl refl refl refl refl refl (let o = keeps_shut n shut in omega arith) (λ _. (omega arith, refl))
-          (grown all (total begun s.views) v v.gives v.looks (v.found + 1) v.tries v.seen f (λ z. shut (omega arith)) (omega arith) f.few_gives),
-      ((λ unshut. absurd (shut unshut)), λ _. refl),
-    ))
-
--- a shut latch with nothing open fires
-fires_once : (all : ℕ) (s : St) (id : ℕ) (v : DeviceView) (n m seen : ℕ) (c : List (ℕ × Unit {0})) → Tied all s → get_elem? s.views id ≡ some v
-    → 1 ≤ v.begun → device_word s.views ≡ closing_word m → n ≡ device_word s.views + 131072
-    → Tied all (stepped s 0 n id c (view_fired seen v) keeps)
-fires_once all s id v n m seen c h at began closing is =
-    let w : DeviceView = view_fired seen v in
-    let vs : List DeviceView = set s.views id w in
-    let ts = total_set seats s.views id v w at in
-    let tg = total_set given s.views id v w at in
-    let tk = total_set backing s.views id v w at in
-    let tb = total_set begun s.views id v w at in
-    let tc = total_set count s.views id v w at in
-    let tn = total_set opens s.views id v w at in
-    let tm = total_set opens_then s.views id v w at in
-    let tf = total_set fired s.views id v w at in
-    let th = total_set held s.views id v w at in
-    let to = total_set opened s.views id v w at in
-    let a = h.all_seats in
-    let once = h.one_begun in
-    let mine = at_le begun s.views id v at in
-    let mine_fired = at_le fired s.views id v at in
-    let b = bounded all s h in
-    let few = b.few_open in
-    let few_backing = b.few_backing in
-    let fired_few = b.fired_begun in
-    let less = b.held_opened in
-    let f = h.each id v at in
-    let unfired : total fired s.views ≡ 0 = omega arith in
-    let unopened : total opened s.views ≡ 0 = omega arith in
-    let sum : n ≡ device_word vs = omega arith in
-    let same : total begun vs ≡ total begun s.views = omega arith in
-    record {
-      few = h.few;
-      all_seats = omega arith;
-      word = ap (λ l. set l 0 n) h.word ∙ ap (λ k. k ∷ []) sum;
-      one_begun = omega arith;
-      settled = λ z. (let o = h.settled (omega arith) in omega arith);
-      before = λ z. (let o = h.before (omega arith) in omega arith);
-      quiet = λ _. omega arith;
-      once = λ k l. (let t = total_set (times_given k) s.views id v w at in let o = h.once k (omega arith) in omega arith);
-      none_else = λ k l. (let t = total_set (times_given k) s.views id v w at in let o = h.none_else k (omega arith) in omega arith);
-      each = λ j u e. subst (λ k. Suits all k u) (sym same)
-          (⊎_elim
-          (λ (x : (j ≡ id) × (w ≡ u)). subst (λ y. Suits all (total begun s.views) y) x.1
-          (record { of_latch = f.of_latch; one_channel = f.one_channel; one_visit = f.one_visit; few_gives = f.few_gives; few_given = f.few_given; none_given = f.none_given; began = f.began; counts = f.counts; fired_begun = omega arith; found_shut = f.found_shut; backing_shut = f.backing_shut }))
-          (λ (x : (j ≢ id) × (get_elem? s.views j ≡ some u)). h.each j u x.1)
-          (at_set s.views id j w u e));
-    }
-
-pub fires : (all slots id : ℕ) (me : Sat) (m old new : ℕ) → 1 ≤ me.0.begun → old ≡ closing_word m → new ≡ old + 131072
-    → Allows (Tied all) slots id me 0 (λ n. either (eqb n old) new n) (TriesToFire (step slots 0 old new none) me)
-fires all slots id me m old new began is_old is_new s h _ at small =
-    let v = me.0 in
-    let n : ℕ = slice_index s.words 0 in
-    let r = reads all s h in
-    let is = r.is in
-    let mine = at_le begun s.views id v at in
-    let mine_fired = at_le fired s.views id v at in
-    let mine_held = at_le held s.views id v at in
-    let once = h.one_begun in
-    let b = bounded all s h in
-    let few = b.few_open in
-    let few_backing = b.few_backing in
-    let fired_few = b.fired_begun in
-    let less = b.held_opened in
-    dite (ℕ_discrete n old)
-    (λ hit. (
-      view_fired n v,
-      keeps,
-      tt,
-      subst (λ b. Tied all (stepped s 0 (either b new n) id me.1 (view_fired n v) keeps)) (sym (eq-eqb n old hit))
-          (fires_once all s id v new m n me.1 h at began (omega arith) (omega arith)),
-      ((λ _. (refl, (omega arith), omega arith)), λ not. absurd (not hit)),
-    ))
-    (λ miss. (
-      view_tried n v,
-      keeps,
-      tt,
-      subst (λ b. Tied all (stepped s 0 (either b new n) id me.1 (view_tried n v) keeps)) (sym (ne_eqb n old miss))
-          (moved all s id v (view_tried n v) n me.1 h at refl refl refl refl refl refl (omega arith) (λ _. (omega arith, refl))
-          (grown all (total begun s.views) v v.gives v.looks v.found (v.tries + 1) n (h.each id v at) (λ z. omega arith) (omega arith) ((h.each id v at).few_gives))),
-      ((λ hit. absurd (miss hit)), λ _. refl),
     ))

@@ -2,4 +2,5 @@ mod RingSteps
 mod ShutBit
 mod DeviceMoves
 mod DeviceSteps
+mod DeviceEnding
 mod DeviceDealing

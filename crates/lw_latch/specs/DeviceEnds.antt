@@ -3,7 +3,7 @@ use Rattle.std.specs.Prelude.{◌≡◌, ◌⊎◌, ℕ, ◌+◌, ◌<◌, ◌�
 use Rattle.atomic_table.specs.Seated.{TableId}
 use Rattle.lw_latch.specs.declared.device_view.DeviceView.{DeviceView}
 use Rattle.lw_base.specs.Totals.{total}
-use Rattle.lw_latch.specs.DeviceWord.{idle_view, both_views, times, held}
+use Rattle.lw_latch.specs.DeviceWord.{idle_view, both_views, times, held_count}
 
 -- which latch, and how many seats it was made with
 pub record DeviceLatch : Type 0 where
@@ -61,4 +61,4 @@ pub record Settles (es : List SeatEnd) (given began_by callbacks : ℕ) : Type 0
   pub fired : total (λ e. e.view.fired) es ≡ callbacks
   pub one_callback : callbacks ≡ 1
   pub by_it : All (λ e. e.view.fired ≡ e.view.begun) es
-  pub nothing_open : All (λ e. held e.view ≡ 0) es
+  pub nothing_open : All (λ e. held_count e.view ≡ 0) es

@@ -11,14 +11,14 @@ abbrev pub seats : DeviceView → ℕ
 seats v = v.seats
 
 -- how many channels a view was given
-abbrev pub given : DeviceView → ℕ
-given v = length v.ordinals
+abbrev pub given_count : DeviceView → ℕ
+given_count v = length v.ordinals
 
-abbrev pub backing : DeviceView → ℕ
-backing v = v.backing
+abbrev pub backing_count : DeviceView → ℕ
+backing_count v = v.backing
 
-abbrev pub begun : DeviceView → ℕ
-begun v = v.begun
+abbrev pub begun_count : DeviceView → ℕ
+begun_count v = v.begun
 
 abbrev pub count : DeviceView → ℕ
 count v = v.count
@@ -29,16 +29,16 @@ opens v = v.opens
 abbrev pub opens_then : DeviceView → ℕ
 opens_then v = v.opens_then
 
-abbrev pub fired : DeviceView → ℕ
-fired v = v.fired
+abbrev pub fired_count : DeviceView → ℕ
+fired_count v = v.fired
 
 -- how many channels and visits a view has
-abbrev pub held : DeviceView → ℕ
-held v = v.channel + v.visit
+abbrev pub held_count : DeviceView → ℕ
+held_count v = v.channel + v.visit
 
 -- what a view counts among the open ones: what it has, and what it is taking back
-abbrev pub opened : DeviceView → ℕ
-opened v = v.channel + v.visit + v.backing + v.leaving
+abbrev pub open_count : DeviceView → ℕ
+open_count v = v.channel + v.visit + v.backing + v.leaving
 
 -- how often a number is among these
 abbrev pub times : ℕ → List ℕ → ℕ
@@ -51,7 +51,7 @@ times_given k v = times k v.ordinals
 
 -- the word that the views make
 abbrev pub device_word : List DeviceView → ℕ
-device_word vs = total opened vs + 65536 * total begun vs + 131072 * total fired vs + 262144 * (total given vs + total backing vs)
+device_word vs = total open_count vs + 65536 * total begun_count vs + 131072 * total fired_count vs + 262144 * (total given_count vs + total backing_count vs)
 
 -- what the rule says of one view of a latch of so many seats, which `shut` of them have shut
 pub record Suits (all shut : ℕ) (v : DeviceView) : Type 0 where
@@ -78,13 +78,13 @@ pub record Tied (all : ℕ) (s : State (Unit {0}) DeviceView) : Type 0 where
   pub few : all ≤ 127
   pub all_seats : total seats s.views ≡ all
   pub word : s.words ≡ device_word s.views ∷ []
-  pub one_begun : total begun s.views ≤ 1
-  pub settled : 1 ≤ total begun s.views → total given s.views ≡ total count s.views
-  pub before : 1 ≤ total begun s.views → total opens s.views ≡ total opens_then s.views
-  pub quiet : 1 ≤ total fired s.views → total held s.views ≡ 0
-  pub once : (k : ℕ) → k < total given s.views → total (times_given k) s.views ≡ 1
-  pub none_else : (k : ℕ) → total given s.views ≤ k → total (times_given k) s.views ≡ 0
-  pub each : (i : ℕ) (v : DeviceView) → get_elem? s.views i ≡ some v → Suits all (total begun s.views) v
+  pub one_begun : total begun_count s.views ≤ 1
+  pub settled : 1 ≤ total begun_count s.views → total given_count s.views ≡ total count s.views
+  pub before : 1 ≤ total begun_count s.views → total opens s.views ≡ total opens_then s.views
+  pub quiet : 1 ≤ total fired_count s.views → total held_count s.views ≡ 0
+  pub once : (k : ℕ) → k < total given_count s.views → total (times_given k) s.views ≡ 1
+  pub none_else : (k : ℕ) → total given_count s.views ≤ k → total (times_given k) s.views ≡ 0
+  pub each : (i : ℕ) (v : DeviceView) → get_elem? s.views i ≡ some v → Suits all (total begun_count s.views) v
 
 -- a view that has done nothing, of a latch of so many seats, which stands for some of them
 abbrev pub idle_view : ℕ → ℕ → DeviceView
@@ -206,12 +206,12 @@ LooksAtShut step old word new =
 
 abbrev pub Begins : Step (Unit {0}) → Sat → ℕ → Sat → Type 0
 Begins step old word new =
-    (shut_bit word ≡ 0 → (often : ℕ) × (new ≡ (view_begun (word / 262144) often old.0, old.1)) × KnowsOpen old.0 × (given old.0 ≤ word / 262144) × (old.0.opens ≤ often) × IsAbove (word / 262144) old.0.ordinals)
+    (shut_bit word ≡ 0 → (often : ℕ) × (new ≡ (view_begun (word / 262144) often old.0, old.1)) × KnowsOpen old.0 × (given_count old.0 ≤ word / 262144) × (old.0.opens ≤ often) × IsAbove (word / 262144) old.0.ordinals)
     × (shut_bit word ≢ 0 → new ≡ (view_found old.0, old.1))
 
 abbrev pub TriesToFire : Step (Unit {0}) → Sat → ℕ → Sat → Type 0
 TriesToFire step old word new =
-    (word ≡ step.first → (new ≡ (view_fired word old.0, old.1)) × (old.0.fired ≡ 0) × (held old.0 ≡ 0))
+    (word ≡ step.first → (new ≡ (view_fired word old.0, old.1)) × (old.0.fired ≡ 0) × (held_count old.0 ≡ 0))
     × (word ≢ step.first → new ≡ (view_tried word old.0, old.1))
 
 -- the ordinals are all numbers below how many there are, each once
@@ -230,10 +230,10 @@ pub record IsWhole (v : DeviceView) : Type 0 where
   pub before : v.begun ≡ 1 → v.opens ≡ v.opens_then
   -- it fired at most once, with nothing open
   pub fired : v.fired ≤ v.begun
-  pub quiet : v.fired ≡ 1 → held v ≡ 0
+  pub quiet : v.fired ≡ 1 → held_count v ≡ 0
 
 -- a seat that stands for all learns that the word is its own, and what follows
 abbrev pub LearnsAll : Step (Unit {0}) → Sat → ℕ → Sat → Type 0
 LearnsAll step old word new =
     (new ≡ old)
-    × (1 ≤ old.0.seats → old.0.seats ≡ old.0.all → (word ≡ device_word (old.0 ∷ [])) × (opened old.0 < 65536) × IsWhole old.0)
+    × (1 ≤ old.0.seats → old.0.seats ≡ old.0.all → (word ≡ device_word (old.0 ∷ [])) × (open_count old.0 < 65536) × IsWhole old.0)

@@ -1,6 +1,6 @@
 //! The latch of a device: who holds a channel or has a visit, and that none is given once it is shut.
 ghost use Rattle.std.specs.Prelude.{◌≡◌, ◌≢◌, ℕ, ◌+◌, ◌-◌, ◌*◌, ◌^◌, ◌<◌, ◌≤◌, true, false, length, IfOk};
-ghost use Rattle.lw_latch.specs.DeviceWord.{first_view, idle_view, view_given, view_not_given, view_visiting, view_usable, view_found, view_begun, view_fired, view_tried, closing_word, KnowsOpen, IsAbove, IsWhole, held};
+ghost use Rattle.lw_latch.specs.DeviceWord.{first_view, idle_view, view_given, view_not_given, view_visiting, view_usable, view_found, view_begun, view_fired, view_tried, closing_word, KnowsOpen, IsAbove, IsWhole, held_count};
 ghost use Rattle.lw_latch.specs.DeviceEnds.{DeviceLatch, AreNewSeats, FiresOnlyWhatItBegan, MayBeTakenIn, new_seat, both_ends};
 
 use crate::device_view::{
@@ -254,7 +254,7 @@ impl DeviceSeat {
         ensures fired { result ≡ Firing.Fired →
             (self.new ≡ record self.old { view = view_fired (closing_word self.old.view.count) self.old.view })
             × (self.old.view.fired ≡ 0)
-            × (held self.old.view ≡ 0) }
+            × (held_count self.old.view ≡ 0) }
         ensures not_yet { (seen : ℕ) → result ≡ Firing.NotYet seen →
             (self.new ≡ record self.old { view = view_tried seen self.old.view })
             × (seen ≢ closing_word self.old.view.count) }

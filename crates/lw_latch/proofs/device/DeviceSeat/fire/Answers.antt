@@ -1,6 +1,6 @@
 use Rattle.std.proofs.Common.{rules, ◌≤◌, sym, subst, refl, arith}
 use Rattle.lw_latch.specs.DeviceEnds.{SeatEnd}
-use Rattle.lw_latch.proofs.DeviceSteps.{fires}
+use Rattle.lw_latch.proofs.DeviceEnding.{fires}
 use Rattle.lw_latch.proofs.device.DeviceSeat.fire.Goals as goal
 
 pub compare_exchange-seen-requires : goal.compare_exchange-seen-requires

@@ -1,5 +1,5 @@
 use Rattle.std.proofs.Common.{rules}
-use Rattle.lw_latch.proofs.DeviceSteps.{shuts}
+use Rattle.lw_latch.proofs.DeviceEnding.{shuts}
 use Rattle.lw_latch.proofs.device.DeviceSeat.shut.Goals as goal
 
 pub fetch_or-found-requires : goal.fetch_or-found-requires
