@@ -116,6 +116,9 @@ for to in "$work/err" /dev/full; do
     [ "$got" = 5 ] || fails "status $got in place of 5, with little memory, of: check"
     [ -s "$work/out" ] && fails "an output, with little memory, of: check"
 done
+(ulimit -v 100000 && "$program" check <"$work/zeros" >"$work/out" 2>&-)
+got=$?
+[ "$got" = 5 ] || fails "status $got in place of 5, with little memory and standard error closed, of: check"
 [ "$(cat "$work/err")" = "out of memory" ] || fails "the line '$(cat "$work/err")', with little memory, of: check"
 
 exit "$failed"

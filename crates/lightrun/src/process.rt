@@ -1,6 +1,7 @@
 //! What the process brings and takes: the words of its command line, clocks and its exit status.
-ghost use Rattle.std.specs.Prelude.{◌≡◌, drop, vec_len, IfOk};
+ghost use Rattle.std.specs.Prelude.{◌≡◌, ◌⊎◌, drop, vec_len, IfOk, IfErr};
 ghost use Rattle.std.specs.Process.{exit_status};
+ghost use Rattle.lw_program.specs.declared.fault.Fault.TheVariants as fault;
 
 use crate::adapters::TickClock;
 use lw_base::NoMemory;
@@ -10,7 +11,9 @@ use std::process::ExitCode;
 use std::{env, io};
 
 /// The words of the command line, the program's name first. A word that isn't text is none of the command table.
-pub fn args_of<R: env::Env + Alloc<A = Global>>(rt: &R) -> Result<Vec<String>, Fault> {
+pub fn args_of<R: env::Env + Alloc<A = Global>>(rt: &R) -> Result<Vec<String>, Fault>
+    ensures { IfErr result (λ f. (f ≡ fault.NoMemory) ⊎ (f ≡ fault.Usage)) }
+{
     match env::args(rt) {
         Ok(args) => collected(rt.alloc(), args).map_err(|_| Fault::NoMemory),
         Err(error) => {

@@ -65,3 +65,17 @@ module _ {X Y : Type 0} (f : ℕ → X → List Y) (size : X → ℕ) (sized : (
 pub unnumbered : {X Y : Type 0} (f : X → List Y) (n : ℕ) (xs : List X) → flat_map (λ p. f p.1) (enumerate_from n xs) ≡ flat_map f xs
 unnumbered f n [] = refl
 unnumbered f n (x ∷ xs) = ap (λ l. f x ++ l) (unnumbered f (n + 1) xs)
+
+-- a sum of one item more
+pub sum_more : {X : Type 0} (size : X → ℕ) (xs : List X) (k : ℕ) (x : X) → slice_get xs k ≡ Some x → sum_by size (take (suc k) xs) ≡ sum_by size (take k xs) + size x
+sum_more size [] k x e = let wrong : None ≡ Some x = e in cc
+sum_more size (y ∷ xs) zero x e =
+    let same : y ≡ x = cc in
+    let one : sum_by size (y ∷ []) ≡ size y + sum_by size [] = sum_by-cons size y [] in
+    let none : sum_by size (take 0 xs) ≡ 0 = refl in
+    omega (arith, one, ap size same)
+sum_more size (y ∷ xs) (suc k) x e =
+    let rest : sum_by size (take (suc k) xs) ≡ sum_by size (take k xs) + size x = sum_more size xs k x e in
+    let long : sum_by size (y ∷ take (suc k) xs) ≡ size y + sum_by size (take (suc k) xs) = sum_by-cons size y (take (suc k) xs) in
+    let short : sum_by size (y ∷ take k xs) ≡ size y + sum_by size (take k xs) = sum_by-cons size y (take k xs) in
+    omega (arith, rest, long, short)

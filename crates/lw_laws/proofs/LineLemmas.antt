@@ -20,8 +20,8 @@ use Rattle.lw_model.specs.Printable.{has_rounds, is_empty}
 use Rattle.lw_model.specs.Lines as number
 use Rattle.lw_model.specs.ReportText as text
 use Rattle.lw_model.proofs.Printed.{parts}
-use Rattle.lw_laws.specs.LinePlaces.{numbered_line, line_at, EachStands, RoundStands, LinesStand}
-use Rattle.lw_laws.proofs.Joined.{behind, within, mapped, behind_mapped, length-mapped, joined, length-joined, in_joined, unnumbered}
+use Rattle.lw_laws.specs.LinePlaces.{numbered_line, line_at, EachStands, RoundStands, IsNextBehind, LinesStand}
+use Rattle.lw_laws.proofs.Joined.{behind, within, mapped, behind_mapped, length-mapped, joined, length-joined, in_joined, unnumbered, sum_more}
 
 -- ---- the lines of a thread, from those of one kind on
 
@@ -310,6 +310,15 @@ module _ (r : Record) where
       order_place : (i : ℕ) → number.round_line r j + 1 + length x.rows + i ≡ number.round_line r j + suc (length x.rows + i)
       order_place i = omega arith
 
+  behind_stands : (s : Span) → r.span ≡ Some s → (j : ℕ) (x : Round) → slice_get r.rounds j ≡ Some x → IsNextBehind r j x
+  behind_stands s e j x there = record {
+    next = places;
+    home = λ last. ap (number.round_line r) last ∙ sym (ap (λ span. elim span as (λ _. ℕ) [ None ↦ number.clock_line r | Some s' ↦ number.round_line r (length r.rounds) ]) e);
+  }
+    where
+      places : number.round_line r j + number.round_size x ≡ number.round_line r (suc j)
+      places = omega (arith, sum_more number.round_size r.rounds j x there)
+
   no_rounds : r.span ≡ None → r.rounds ≡ []
   no_rounds e = at r.scheduler r.rounds (ap (λ span. has_rounds r.scheduler span r.rounds) (sym e) ∙ (parts r).rounds)
     where
@@ -355,5 +364,6 @@ lines_stand r = record {
   devices = devices_stand r;
   clock = clock_stands r;
   rounds = rounds_stand r;
+  behind = behind_stands r;
   home = home_stands r;
 }

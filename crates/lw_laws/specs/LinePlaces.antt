@@ -36,6 +36,11 @@ pub record RoundStands (r : Record) (first : ℕ) (x : Round) : Type 0 where
   pub rows : (i : ℕ) (w : Row) → slice_get x.rows i ≡ Some w → line_at r (first + 1 + i) ≡ Some (text.row_line w)
   pub orders : (i : ℕ) (o : Order) → slice_get x.orders i ≡ Some o → line_at r (first + 1 + length x.rows + i) ≡ Some (text.order_line o)
 
+-- the line behind a round is the next round's, and behind the last the pool's
+pub record IsNextBehind (r : Record) (j : ℕ) (x : Round) : Type 0 where
+  pub next : number.round_line r j + number.round_size x ≡ number.round_line r (suc j)
+  pub home : suc j ≡ length r.rounds → number.round_line r (suc j) ≡ number.home_line r
+
 -- every line that is given a number stands at that place of the text
 pub record LinesStand (r : Record) : Type 0 where
   pub thread : (t : ℕ) (x : ThreadRecord) → slice_get r.threads t ≡ Some x → line_at r (number.thread_line r t) ≡ Some (text.thread_line t x)
@@ -48,4 +53,5 @@ pub record LinesStand (r : Record) : Type 0 where
   pub devices : (d : ℕ) (x : DeviceEnd) → slice_get r.devices d ≡ Some x → line_at r (number.device_line r d) ≡ Some (text.device_line d x)
   pub clock : (s : Span) → r.span ≡ Some s → line_at r (number.clock_line r) ≡ Some (text.line (codes "clock" ∷ decimal s.first ∷ decimal s.last ∷ []))
   pub rounds : (s : Span) → r.span ≡ Some s → (j : ℕ) (x : Round) → slice_get r.rounds j ≡ Some x → RoundStands r (number.round_line r j) x
+  pub behind : (s : Span) → r.span ≡ Some s → (j : ℕ) (x : Round) → slice_get r.rounds j ≡ Some x → IsNextBehind r j x
   pub home : line_at r (number.home_line r) ≡ Some (text.line (codes "home" ∷ decimal r.home.small ∷ decimal r.home.large ∷ []))
