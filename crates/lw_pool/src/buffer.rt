@@ -51,7 +51,15 @@ impl Buffer {
         ensures length { length result.now ≡ len }
     {
         self.filled = len;
-        self.bytes.slice_mut(..len)
+        self.filled_mut()
+    }
+
+    // The filled bytes, for writing.
+    fn filled_mut(&mut self) -> &mut [u8]
+        ensures* writes_back { sem 𝓛 (LendsFilled self.entry result) }
+        ensures value { result.now ≡ self.old.filled }
+    {
+        self.bytes.slice_mut(..self.filled)
     }
 
     /// The filled bytes.
