@@ -1,0 +1,4 @@
+pub mod Sizes
+pub mod PoolRule
+pub mod PoolEnds
+pub mod Lending

@@ -1,0 +1,71 @@
+//! A buffer that is out of the pool.
+ghost use Rattle.std.specs.Prelude.{◌≡◌, ◌≤◌, length};
+ghost use Rattle.std.specs.Borrow.{sem};
+ghost use Rattle.lw_pool.specs.Sizes.{size_of};
+
+use crate::class::Class;
+use crate::queue::Pass;
+use std::marker::Model;
+
+/// A buffer of 8,192 or of 135,168 bytes. It goes back to the pool that it was taken from.
+#[derive(Drop)]
+pub struct Buffer {
+    pub(crate) bytes: Vec<u8>,
+    pub(crate) filled: usize,
+    pub(crate) class: Class,
+    // It has no bytes, and shows of which queue the buffer is.
+    pub(crate) mark: Pass,
+}
+
+impl Model for Buffer {
+    ghost use Rattle.std.specs.Prelude.{◌≡◌, ◌≤◌, length, take};
+    ghost use Rattle.lw_pool.specs.Sizes.{size_of};
+    ghost use Rattle.lw_pool.specs.PoolEnds.{BufferEnd};
+
+    ghost Value = { BufferEnd };
+
+    ghost view = { λ b. record {
+      queue = b.mark.table_id;
+      class = b.class;
+      filled = take b.filled b.bytes.items;
+    } };
+
+    ghost invariant = { λ b. (length b.bytes.items ≡ size_of b.class) × (b.filled ≤ size_of b.class) };
+}
+
+impl Buffer {
+    ghost use Rattle.lw_pool.specs.Lending.{LendsFilled};
+
+    /// The buffer's class.
+    pub fn class(&self) -> Class
+        ensures { result ≡ self.now.class }
+    {
+        self.class
+    }
+
+    /// Sets the filled length to `len`, at most the class's size, and lends those bytes for writing. What they hold until
+    /// they are written is left open.
+    pub fn room(&mut self, len: usize) -> &mut [u8]
+        requires { len ≤ size_of self.old.class }
+        ensures* writes_back { sem 𝓛 (LendsFilled self.entry result) }
+        ensures length { length result.now ≡ len }
+    {
+        self.filled = len;
+        self.filled_mut()
+    }
+
+    // The filled bytes, for writing.
+    fn filled_mut(&mut self) -> &mut [u8]
+        ensures* writes_back { sem 𝓛 (LendsFilled self.entry result) }
+        ensures value { result.now ≡ self.old.filled }
+    {
+        self.bytes.slice_mut(..self.filled)
+    }
+
+    /// The filled bytes.
+    pub fn filled(&self) -> &[u8]
+        ensures { result.now ≡ self.now.filled }
+    {
+        &self.bytes[..self.filled]
+    }
+}

@@ -1,0 +1,16 @@
+//! The two classes of buffers.
+
+/// How many bytes a small buffer has.
+pub(crate) const SMALL_BYTES: usize = 8_192;
+
+/// How many bytes a large buffer has.
+pub(crate) const LARGE_BYTES: usize = 135_168;
+
+/// A class of buffers.
+#[derive(Clone, Copy, PartialEq, Eq, Debug)]
+pub enum Class {
+    /// 8,192 bytes.
+    Small,
+    /// 135,168 bytes.
+    Large,
+}
