@@ -4,3 +4,8 @@ pub mod RunMoved
 pub mod RunVisits
 pub mod RunShut
 pub mod RunPair
+pub mod Access
+pub mod Homes
+pub mod Numbers
+pub mod Steps
+pub mod Answers

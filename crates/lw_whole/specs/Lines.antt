@@ -1,5 +1,5 @@
 -- What a thread lists, by its own steps alone.
-use Rattle.std.specs.Prelude.{ℕ, ◌==◌, nat_lt, nat_le, Bool, true, cond, ◌&&◌, ◌||◌, not, List, [], ◌∷◌, length, take, reverse, Option, Some, None, option_map, is_none}
+use Rattle.std.specs.Prelude.{ℕ, ◌==◌, nat_lt, nat_le, Bool, true, false, cond, ◌&&◌, ◌||◌, not, List, [], ◌∷◌, length, take, reverse, Option, Some, None, option_map, is_none, count_by}
 use Rattle.std.specs.List.{list_all, list_any}
 use Rattle.lw_base.specs.declared.message.Mark.{Mark}
 use Rattle.lw_base.specs.declared.message.What.TheVariants as what
@@ -30,10 +30,18 @@ awaits s t (step.Did i x ∷ past) = cond (is_started x.answer) (Some x.op) None
 awaits s t (step.Called i x ∷ past) = awaits s t past
 awaits s t (step.Ran i m ∷ past) = elim (awaits s t past) [ None ↦ None | Some k ↦ cond (completes (op_at s t k) k m.what) None (Some k) ]
 
+-- how many `did` lines stand among these steps
+abbrev pub is_a_did : Step → Bool
+is_a_did (step.Did i x) = true
+is_a_did _ = false
+
+abbrev pub dids_in : List Step → ℕ
+dids_in past = count_by is_a_did past
+
 -- a client's line: the next op, or behind the last one `closed`; its answer is one that the steps before allow, and no
 -- completion is awaited
 abbrev pub client_line_fits : Script → ℕ → List Step → Step → Bool
-client_line_fits s t past (step.Did i x) = x.op == i && nat_le i (length (ops_of s t)) && answer_fits s t past (op_at s t i) x.answer && depth_fits s t past x.answer && is_none (awaits s t past)
+client_line_fits s t past (step.Did i x) = i == dids_in past && x.op == i && nat_le i (length (ops_of s t)) && answer_fits s t past (op_at s t i) x.answer && depth_fits s t past x.answer && is_none (awaits s t past)
 client_line_fits s t past _ = true
 
 -- the app's line: the next device's, behind the Done of each client
