@@ -9,3 +9,6 @@ pub mod Homes
 pub mod Numbers
 pub mod Steps
 pub mod Answers
+pub mod Flow
+pub mod TokenCounts
+pub mod TokenRuns
