@@ -106,13 +106,13 @@ completed s t i y (step.Ran j m ∷ past) e f = ap (λ q. not (is_started y.answ
 abbrev Counted : ThreadRecord → List Step → Type 0
 Counted x past = (k : ℕ) → dids_in past ≡ suc k → (y : Did) × (latest past ≡ Some (k, y)) × (slice_get x.did k ≡ Some y)
 
-one_more : (i : ℕ) (d : Did) (past : List Step) → dids_in (step.Did i d ∷ past) ≡ suc (dids_in past)
+pub one_more : (i : ℕ) (d : Did) (past : List Step) → dids_in (step.Did i d ∷ past) ≡ suc (dids_in past)
 one_more i d past = sum_by-cons (λ s. cond (is_a_did s) 1 0) (step.Did i d) past ∙ omega arith
 
-one_ran : (i : ℕ) (m : Tag) (past : List Step) → dids_in (step.Ran i m ∷ past) ≡ dids_in past
+pub one_ran : (i : ℕ) (m : Tag) (past : List Step) → dids_in (step.Ran i m ∷ past) ≡ dids_in past
 one_ran i m past = sum_by-cons (λ s. cond (is_a_did s) 1 0) (step.Ran i m) past ∙ omega arith
 
-one_called : (i : ℕ) (c : Called) (past : List Step) → dids_in (step.Called i c ∷ past) ≡ dids_in past
+pub one_called : (i : ℕ) (c : Called) (past : List Step) → dids_in (step.Called i c ∷ past) ≡ dids_in past
 one_called i c past = sum_by-cons (λ s. cond (is_a_did s) 1 0) (step.Called i c) past ∙ omega arith
 
 module _ (r : Record) (t : ℕ) (x : ThreadRecord) (not_app : (t == 0) ≡ false) (client : is_client r.script t ≡ true) (did : did_of r t ≡ x.did) where

@@ -12,3 +12,4 @@ pub mod Answers
 pub mod Flow
 pub mod TokenCounts
 pub mod TokenRuns
+pub mod TokenFlow

@@ -37,7 +37,7 @@ Token w = is_same_token w w ≡ true
 same_self : (w v : What) → is_same_token w v ≡ true → is_same_token v v ≡ true
 same_self w v e = subst (λ z. is_same_token z v ≡ true) (sym (same_is w v e)) e
 
-length_append : {X : Type 0} (xs ys : List X) → length (xs ++ ys) ≡ length xs + length ys
+pub length_append : {X : Type 0} (xs ys : List X) → length (xs ++ ys) ≡ length xs + length ys
 length_append [] ys = omega arith
 length_append (x ∷ xs) ys = omega (arith, length_append xs ys)
 
@@ -69,13 +69,13 @@ started_goes s t l w past (step.Did i x) now e h = client (is_client s t) e h
 started_goes s t l w past (step.Called i x) now e h = absurd (false≢true e)
 started_goes s t l w past (step.Ran i m) now e h = absurd (false≢true e)
 
-goes_few : (s : Script) (w : What) (n from : ℕ) (load : Load) (now : List (ℕ × Letter)) → GoesOn s w from load now → length (dests n w now) ≤ 1
+pub goes_few : (s : Script) (w : What) (n from : ℕ) (load : Load) (now : List (ℕ × Letter)) → GoesOn s w from load now → length (dests n w now) ≤ 1
 goes_few s w n from load [] h = omega arith
 goes_few s w n from load (p ∷ []) h = omega arith
 goes_few s w n from load (p ∷ q ∷ rest) h = absurd h
 
 -- whom it goes to is not below; home is above all
-goes_up : (s : Script) (w : What) → Token w → (n from : ℕ) → from ≤ n → (load : Load) (now : List (ℕ × Letter)) → GoesOn s w from load now → AllByRecursion (λ u. from ≤ u) (dests n w now)
+pub goes_up : (s : Script) (w : What) → Token w → (n from : ℕ) → from ≤ n → (load : Load) (now : List (ℕ × Letter)) → GoesOn s w from load now → AllByRecursion (λ u. from ≤ u) (dests n w now)
 goes_up s w tok n from le load [] h = tt
 goes_up s w tok n from le load (p ∷ []) (inl to) = (subst (λ u. from ≤ u) (sym (ap {B = ℕ} (λ v. cond (is_same_token w v) p.0 n) to.token ∙ ap {B = ℕ} (λ b. cond b p.0 n) tok)) to.above, tt)
 goes_up s w tok n from le load (p ∷ []) (inr home) = (subst (λ u. from ≤ u) (sym (ap {B = ℕ} (λ b. cond b p.0 n) (none_first (not_completion w w)))) le, tt)
