@@ -13,3 +13,4 @@ pub mod Flow
 pub mod TokenCounts
 pub mod TokenRuns
 pub mod TokenFlow
+pub mod TokenHome

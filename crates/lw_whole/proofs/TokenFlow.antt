@@ -255,7 +255,7 @@ module _ (r : Record) (logs : List Log) (whole : IsWholeRun r logs) (w : What) w
   few tok t less =
       let l = log_of r logs whole t less in
       omega (
-        arith, ap length (goes_is t l.0 l.1), runs_are t l.0 l.1, count_steps w l.0,
+        arith, ap length (goes_is t l.0 l.1), runs_are t l.0 l.1, count_steps (is_same_token w) l.0,
         few_of r.script t l.0 w n_of tok less [] (steps l.0) l.0.sends (ended r logs whole t l.0 l.1).sends.at_steps,
       )
 

@@ -25,7 +25,7 @@ use Rattle.lw_whole.specs.Letters.{Letter, Load}
 use Rattle.lw_whole.specs.Logs.{Log, addressed, load_at, steps, steps_with_past, all_sends, run_by, sent_by_thread, to_thread, without_callbacks}
 use Rattle.lw_whole.specs.Tokens.{GoesOn, empty_load, load_behind}
 use Rattle.lw_whole.specs.Sends.{Sets, SentByDid, SentByRan, SentBy, SentAlong}
-use Rattle.lw_whole.specs.Lines.{dids_in, client_line_fits}
+use Rattle.lw_whole.specs.Lines.{is_a_did}
 use Rattle.lw_whole.proofs.Flow.{sum_below, sum_same, sum_both, count_at}
 use Rattle.lw_whole.proofs.TokenCounts.{Either, same_is, NoneIs, not_completion, plain_none, done_none, stop_none, none_to, starts, dest, dests, outs, count_to, count_to-append, S_of, D_of, sent_counts}
 
@@ -106,26 +106,40 @@ count_of-append : (p : Step → Bool) (xs ys : List Step) → count_of p (xs ++ 
 count_of-append p [] ys = omega arith
 count_of-append p (x ∷ xs) ys = omega (arith, count_of-append p xs ys)
 
--- how often the token is among messages
+-- how many messages pass
+abbrev pub count_if : (What → Bool) → List Tag → ℕ
+count_if q [] = 0
+count_if q (m ∷ ms) = cond (q m.what) 1 0 + count_if q ms
+
 abbrev pub count_tags : What → List Tag → ℕ
-count_tags w [] = 0
-count_tags w (m ∷ ms) = cond (is_same_token w m.what) 1 0 + count_tags w ms
+count_tags w ms = count_if (is_same_token w) ms
 
-of_dids : (w : What) (n : ℕ) (xs : List Did) → count_of (runs (is_same_token w)) (map (λ p. step.Did p.0 p.1) (enumerate_from n xs)) ≡ 0
-of_dids w n [] = refl
-of_dids w n (x ∷ xs) = omega (arith, of_dids w (n + 1) xs)
+of_dids : (q : What → Bool) (n : ℕ) (xs : List Did) → count_of (runs q) (map (λ p. step.Did p.0 p.1) (enumerate_from n xs)) ≡ 0
+of_dids q n [] = refl
+of_dids q n (x ∷ xs) = omega (arith, of_dids q (n + 1) xs)
 
-of_rans : (w : What) (n : ℕ) (ms : List Tag) → count_of (runs (is_same_token w)) (map (λ p. step.Ran p.0 p.1) (enumerate_from n ms)) ≡ count_tags w ms
-of_rans w n [] = refl
-of_rans w n (m ∷ ms) = omega (arith, of_rans w (n + 1) ms)
+of_rans : (q : What → Bool) (n : ℕ) (ms : List Tag) → count_of (runs q) (map (λ p. step.Ran p.0 p.1) (enumerate_from n ms)) ≡ count_if q ms
+of_rans q n [] = refl
+of_rans q n (m ∷ ms) = omega (arith, of_rans q (n + 1) ms)
 
-pub count_steps : (w : What) (l : Log) → count_of (runs (is_same_token w)) (steps l) ≡ count_tags w l.lines.ran
-count_steps w l =
-    count_in_order (runs (is_same_token w)) (dids l.lines ++ [] ++ rans l.lines)
-    ∙ omega (
-      arith, count_of-append (runs (is_same_token w)) (dids l.lines ++ []) (rans l.lines), count_of-append (runs (is_same_token w)) (dids l.lines) [],
-      of_dids w 0 l.lines.did, of_rans w 0 l.lines.ran,
-    )
+count_parts : (p : Step → Bool) (l : Log) → count_of p (steps l) ≡ count_of p (dids l.lines) + count_of p (rans l.lines)
+count_parts p l =
+    count_in_order p (dids l.lines ++ [] ++ rans l.lines)
+    ∙ omega (arith, count_of-append p (dids l.lines ++ []) (rans l.lines), count_of-append p (dids l.lines) [])
+
+pub count_steps : (q : What → Bool) (l : Log) → count_of (runs q) (steps l) ≡ count_if q l.lines.ran
+count_steps q l = omega (arith, count_parts (runs q) l, of_dids q 0 l.lines.did, of_rans q 0 l.lines.ran)
+
+lines_of : (n : ℕ) (xs : List Did) → count_of is_a_did (map (λ p. step.Did p.0 p.1) (enumerate_from n xs)) ≡ length xs
+lines_of n [] = refl
+lines_of n (x ∷ xs) = omega (arith, lines_of (n + 1) xs)
+
+no_lines_of : (n : ℕ) (ms : List Tag) → count_of is_a_did (map (λ p. step.Ran p.0 p.1) (enumerate_from n ms)) ≡ 0
+no_lines_of n [] = refl
+no_lines_of n (m ∷ ms) = omega (arith, no_lines_of (n + 1) ms)
+
+pub count_lines : (l : Log) → count_of is_a_did (steps l) ≡ length l.lines.did
+count_lines l = omega (arith, count_parts is_a_did l, lines_of 0 l.lines.did, no_lines_of 0 l.lines.ran)
 
 module _ (s : Script) (t : ℕ) (l : Log) (w : What) (n : ℕ) (tok : Token w) (less : t < n) where
   -- each run sends it on once at most, to a thread above

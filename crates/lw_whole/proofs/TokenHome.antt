@@ -1,0 +1,145 @@
+-- A token that was started came home: its origin ended, so it ran the completion, which was sent behind the last thread.
+use Rattle.std.proofs.Common.{◌≡◌, ℕ, zero, suc, ◌+◌, ◌<◌, ◌≤◌, ◌==◌, nat_lt, nat_le, Bool, true, false, cond, not, ◌&&◌, ◌||◌, List, [], ◌∷◌, ◌++◌, map, filter, length, Option, Some, None, slice_get, unwrap_or, option_map, option_to_list, refl, sym, ap, ap₂, subst, ◌∙◌, arith, inl, inr, IsTrue}
+use Rattle.std.specs.Prelude.{◌⊎◌, if◌then◌else◌, is_none}
+use Rattle.std.specs.List.{list_all, AllByRecursion, flat_map}
+use Rattle.std.proofs.lemmas.Bool.{and_parts, eqb-true, eq-eqb, ne_eqb, false≢true, cases_eq, cases_lt}
+use Rattle.lw_base.specs.declared.message.Tag.{Tag}
+use Rattle.lw_base.specs.declared.message.What.{What}
+use Rattle.lw_base.specs.declared.message.What.TheVariants as what
+use Rattle.lw_base.specs.Letters.{sent_by}
+use Rattle.lw_model.specs.declared.script.Script.{Script}
+use Rattle.lw_model.specs.declared.script.Op.{Op}
+use Rattle.lw_model.specs.declared.script.Op.TheVariants as op
+use Rattle.lw_model.specs.declared.record.Record.{Record}
+use Rattle.lw_model.specs.declared.record.Did.{Did}
+use Rattle.lw_model.specs.declared.record.Answer.{Answer}
+use Rattle.lw_model.specs.declared.record.Answer.TheVariants as answer
+use Rattle.lw_model.specs.declared.step.Step.{Step}
+use Rattle.lw_model.specs.declared.step.Step.TheVariants as step
+use Rattle.lw_model.specs.Threads.{thread_count, is_client, is_owner, ops_of, op_at, image_at, images, owner_of}
+use Rattle.lw_model.specs.OwnOrder.{with_past}
+use Rattle.lw_model.specs.Holding.{runs, is_started}
+use Rattle.lw_model.specs.Answers.{completes, answer_fits, depth_fits}
+use Rattle.lw_model.specs.Sent.{is_same_token, token_of, token_of_op, completion, referred, sent_last}
+use Rattle.lw_whole.specs.Letters.{Letter}
+use Rattle.lw_whole.specs.Logs.{Log, addressed, steps, steps_with_past, all_sends, run_by, sent_by_thread, to_thread}
+use Rattle.lw_whole.specs.Tokens.{GoesOn, empty_load}
+use Rattle.lw_whole.specs.Sends.{Sets, Replies, SentByDid, SentByRan, SentBy, SentAlong}
+use Rattle.lw_whole.specs.Lines.{awaits, is_a_did, dids_in, client_line_fits}
+use Rattle.lw_whole.specs.WholeRun.{IsWholeRun}
+use Rattle.lw_whole.proofs.Access.{log_of, log_count, ended, client_ended, within_get}
+use Rattle.lw_whole.proofs.Answers.{one_more, one_ran, one_called}
+use Rattle.lw_whole.proofs.Numbers.{run_at, none_sent}
+use Rattle.lw_whole.proofs.Flow.{count_at, sum_below, sum_some, sum_has, count_some}
+use Rattle.lw_whole.proofs.TokenCounts.{Either, same_is, starts, dest, dests, outs, S_of, D_of, count_at-append, visit_same, cast_same}
+use Rattle.lw_whole.proofs.TokenRuns.{Token, count_of, count_if, count_steps, count_lines, length_append}
+use Rattle.lw_whole.proofs.TokenFlow.{origin_of, op_of, starts_at, n_of, starts_of, goes_of}
+
+-- ---- the origin runs the completion
+
+-- a client that awaits a completion and lists something yet runs the completion
+await_run : (s : Script) (t k : ℕ) (past rest : List Step) → awaits s t past ≡ Some k → list_all (λ p. client_line_fits s t p.0 p.1) (with_past past rest) ≡ true → 1 ≤ count_of is_a_did rest
+    → 1 ≤ count_of (runs (completes (op_at s t k) k)) rest
+await_run s t k past [] e fits some = absurd (omega (arith, some))
+await_run s t k past (step.Did i x ∷ rest) e fits some =
+    let both = and_parts (client_line_fits s t past (step.Did i x)) (list_all (λ p. client_line_fits s t p.0 p.1) (with_past (step.Did i x ∷ past) rest)) fits in
+    let free = (and_parts (i == dids_in past && x.op == i && nat_le i (length (ops_of s t)) && answer_fits s t past (op_at s t i) x.answer && depth_fits s t past x.answer) (is_none (awaits s t past)) both.0).1 in
+    absurd (false≢true (sym (ap (λ (o : Option ℕ). is_none o) e) ∙ free))
+await_run s t k past (step.Called i x ∷ rest) e fits some = omega (arith, await_run s t k (step.Called i x ∷ past) rest e fits (omega (arith, some)))
+await_run s t k past (step.Ran i m ∷ rest) e fits some = at (completes (op_at s t k) k m.what) refl (λ f. await_run s t k (step.Ran i m ∷ past) rest f fits (omega (arith, some)))
+  where
+    at : (b : Bool) → completes (op_at s t k) k m.what ≡ b → (awaits s t (step.Ran i m ∷ past) ≡ Some k → 1 ≤ count_of (runs (completes (op_at s t k) k)) rest) → 1 ≤ cond b 1 0 + count_of (runs (completes (op_at s t k) k)) rest
+    at true f go = omega arith
+    at false f go = omega (
+      arith,
+      go (ap (λ (o : Option ℕ). elim o as (λ z. Option ℕ) [ None ↦ None | Some j ↦ cond (completes (op_at s t j) j m.what) None (Some j) ]) e ∙ ap (λ b. cond b None (Some k)) f),
+    )
+
+-- what completes the op that starts w is its completion
+abbrev pub back : What → What
+back (what.Visit o k d) = what.Visited k
+back (what.Cast o k) = what.Casted k
+back w = w
+
+completes_back : (t k : ℕ) (o : Option Op) (w v : What) → elim o [ None ↦ None | Some x ↦ token_of_op t k x ] ≡ Some w → completes o k v ≡ true → v ≡ back w
+completes_back t k None w v e f = cc
+completes_back t k (Some (op.Visit d)) w (what.Visited j) e f =
+    let is : what.Visit t k d ≡ w = cc in ap what.Visited (eqb-true j k (and_parts (j == k) true f).0) ∙ ap back is
+completes_back t k (Some op.Each) w (what.Casted j) e f =
+    let is : what.Cast t k ≡ w = cc in ap what.Casted (eqb-true j k (and_parts (j == k) true f).0) ∙ ap back is
+completes_back t k (Some (op.Visit d)) w (what.Casted j) e f = absurd (false≢true (sym (no_right (j == k)) ∙ f))
+  where
+    no_right : (b : Bool) → (b && false) ≡ false
+    no_right true = refl
+    no_right false = refl
+completes_back t k (Some op.Each) w (what.Visited j) e f = absurd (false≢true (sym (no_right (j == k)) ∙ f))
+  where
+    no_right : (b : Bool) → (b && false) ≡ false
+    no_right true = refl
+    no_right false = refl
+completes_back t k (Some (op.Visit d)) w (what.Request j) e f = absurd (false≢true f)
+completes_back t k (Some (op.Visit d)) w (what.Reply j) e f = absurd (false≢true f)
+completes_back t k (Some (op.Visit d)) w (what.PutSelf j) e f = absurd (false≢true f)
+completes_back t k (Some (op.Visit d)) w (what.Visit a b c) e f = absurd (false≢true f)
+completes_back t k (Some (op.Visit d)) w (what.Cast a b) e f = absurd (false≢true f)
+completes_back t k (Some (op.Visit d)) w what.Done e f = absurd (false≢true f)
+completes_back t k (Some (op.Visit d)) w what.Stop e f = absurd (false≢true f)
+completes_back t k (Some (op.Visit d)) w (what.Arrive a b) e f = absurd (false≢true f)
+completes_back t k (Some (op.Visit d)) w (what.Order a b c) e f = absurd (false≢true f)
+completes_back t k (Some op.Each) w (what.Request j) e f = absurd (false≢true f)
+completes_back t k (Some op.Each) w (what.Reply j) e f = absurd (false≢true f)
+completes_back t k (Some op.Each) w (what.PutSelf j) e f = absurd (false≢true f)
+completes_back t k (Some op.Each) w (what.Visit a b c) e f = absurd (false≢true f)
+completes_back t k (Some op.Each) w (what.Cast a b) e f = absurd (false≢true f)
+completes_back t k (Some op.Each) w what.Done e f = absurd (false≢true f)
+completes_back t k (Some op.Each) w what.Stop e f = absurd (false≢true f)
+completes_back t k (Some op.Each) w (what.Arrive a b) e f = absurd (false≢true f)
+completes_back t k (Some op.Each) w (what.Order a b c) e f = absurd (false≢true f)
+completes_back t k (Some (op.Get d)) w v e f = cc
+completes_back t k (Some (op.Put d)) w v e f = cc
+completes_back t k (Some (op.Write d a b c)) w v e f = cc
+completes_back t k (Some (op.Read d a b)) w v e f = cc
+completes_back t k (Some (op.Flush d)) w v e f = cc
+completes_back t k (Some (op.Wait d)) w v e f = cc
+completes_back t k (Some (op.Unregister d)) w v e f = cc
+
+module _ (s : Script) (t : ℕ) (w : What) (n : ℕ) (l : Log) where
+  abbrev Goal : List Step → Type 0
+  Goal rest = (token_of s t (op_of w) ≡ Some w) × (1 ≤ count_of (runs (completes (op_at s t (op_of w)) (op_of w))) rest)
+
+  -- behind the line that starts the token its completion is run
+  start_run : (past rest : List Step) (sends : List (List (ℕ × Letter))) → dids_in past + count_of is_a_did rest ≡ length (ops_of s t) + 1 → list_all (λ p. client_line_fits s t p.0 p.1) (with_past past rest) ≡ true
+      → 1 ≤ length (S_of s t l w n (with_past past rest) sends) → (token_of s t (op_of w) ≡ Some w) × (1 ≤ count_of (runs (completes (op_at s t (op_of w)) (op_of w))) rest)
+  start_run past [] sends total fits some = absurd (omega (arith, some))
+  start_run past (x ∷ rest) [] total fits some = absurd (omega (arith, some))
+  start_run past (x ∷ rest) (now ∷ sends) total fits some =
+      let both = and_parts (client_line_fits s t past x) (list_all (λ p. client_line_fits s t p.0 p.1) (with_past (x ∷ past) rest)) fits in
+      at (starts s t w x) refl x refl both.0 both.1 some (λ more. start_run (x ∷ past) rest sends (step_total x total) both.1 more)
+    where
+      step_total : (x : Step) → dids_in past + count_of is_a_did (x ∷ rest) ≡ length (ops_of s t) + 1 → dids_in (x ∷ past) + count_of is_a_did rest ≡ length (ops_of s t) + 1
+      step_total (step.Did i d) h = omega (arith, h, one_more i d past)
+      step_total (step.Called i d) h = omega (arith, h, one_called i d past)
+      step_total (step.Ran i m) h = omega (arith, h, one_ran i m past)
+
+      wider : (x : Step) → Goal rest → Goal (x ∷ rest)
+      wider x g = (g.0, omega (arith, g.1))
+
+      at : (b : Bool) → starts s t w x ≡ b → (y : Step) → x ≡ y → client_line_fits s t past x ≡ true → list_all (λ p. client_line_fits s t p.0 p.1) (with_past (x ∷ past) rest) ≡ true
+          → 1 ≤ length (cond b (dests n w now) [] ++ S_of s t l w n (with_past (x ∷ past) rest) sends) → (1 ≤ length (S_of s t l w n (with_past (x ∷ past) rest) sends) → Goal rest) → Goal (x ∷ rest)
+      at false e y is fits more some go = wider x (go some)
+      at true e (step.Did i d) is fits more some go =
+          let f = starts_at s t w i d (subst (λ z. starts s t w z ≡ true) is e) in
+          let token : token_of s t (op_of w) ≡ Some w = ap (token_of s t) (sym f.1) ∙ f.4 in
+          let fits' = subst (λ z. client_line_fits s t past z ≡ true) is fits in
+          let place : i ≡ dids_in past = eqb-true i (dids_in past) (and_parts (i == dids_in past) (d.op == i) (and_parts (i == dids_in past && d.op == i) (nat_le i (length (ops_of s t))) (and_parts (i == dids_in past && d.op == i && nat_le i (length (ops_of s t))) (answer_fits s t past (op_at s t i) d.answer) (and_parts (i == dids_in past && d.op == i && nat_le i (length (ops_of s t)) && answer_fits s t past (op_at s t i) d.answer) (depth_fits s t past d.answer) (and_parts (i == dids_in past && d.op == i && nat_le i (length (ops_of s t)) && answer_fits s t past (op_at s t i) d.answer && depth_fits s t past d.answer) (is_none (awaits s t past)) fits').0).0).0).0).0 in
+          let op_is : d.op ≡ i = eqb-true d.op i (and_parts (i == dids_in past) (d.op == i) (and_parts (i == dids_in past && d.op == i) (nat_le i (length (ops_of s t))) (and_parts (i == dids_in past && d.op == i && nat_le i (length (ops_of s t))) (answer_fits s t past (op_at s t i) d.answer) (and_parts (i == dids_in past && d.op == i && nat_le i (length (ops_of s t)) && answer_fits s t past (op_at s t i) d.answer) (depth_fits s t past d.answer) (and_parts (i == dids_in past && d.op == i && nat_le i (length (ops_of s t)) && answer_fits s t past (op_at s t i) d.answer && depth_fits s t past d.answer) (is_none (awaits s t past)) fits').0).0).0).0).1 in
+          let within : op_of w < length (ops_of s t) = op_within (op_at s t (op_of w)) refl token in
+          let rest_total : dids_in past + count_of is_a_did (step.Did i d ∷ rest) ≡ length (ops_of s t) + 1 = subst (λ z. dids_in past + count_of is_a_did (z ∷ rest) ≡ length (ops_of s t) + 1) is total in
+          let waits : awaits s t (x ∷ past) ≡ Some (op_of w) = ap (λ z. awaits s t (z ∷ past)) is ∙ ap (λ b. cond b (Some d.op) None) f.3 ∙ ap Some f.1 in
+          wider x (token, await_run s t (op_of w) (x ∷ past) rest waits more (omega (arith, rest_total, place, op_is, f.1, within)))
+        where
+          op_within : (o : Option Op) → op_at s t (op_of w) ≡ o → elim o [ None ↦ None | Some y ↦ token_of_op t (op_of w) y ] ≡ Some w → op_of w < length (ops_of s t)
+          op_within None e f = cc
+          op_within (Some y) e f = within_get (ops_of s t) (op_of w) y e
+      at true e (step.Called i d) is fits more some go = absurd (false≢true (subst (λ z. starts s t w z ≡ true) is e))
+      at true e (step.Ran i m) is fits more some go = absurd (false≢true (subst (λ z. starts s t w z ≡ true) is e))
