@@ -14,3 +14,4 @@ pub mod TokenCounts
 pub mod TokenRuns
 pub mod TokenFlow
 pub mod TokenHome
+pub mod TokenBack

@@ -153,7 +153,7 @@ starts_at s t w i x e =
     op_made None f = cc
     op_made (Some y) f = of_op y f
 
-nothing_passes : (p : Step → Bool) (n : ℕ) (w : What) (ps : List (List Step × Step)) (sends : List (List (ℕ × Letter))) → ((x : Step) → p x ≡ false) → outs p n w ps sends ≡ []
+pub nothing_passes : (p : Step → Bool) (n : ℕ) (w : What) (ps : List (List Step × Step)) (sends : List (List (ℕ × Letter))) → ((x : Step) → p x ≡ false) → outs p n w ps sends ≡ []
 nothing_passes p n w [] sends h = refl
 nothing_passes p n w (x ∷ ps) [] h = refl
 nothing_passes p n w (x ∷ ps) (now ∷ sends) h = ap (λ b. cond b (dests n w now) [] ++ outs p n w ps sends) (h x.1) ∙ nothing_passes p n w ps sends h
@@ -209,7 +209,7 @@ module _ (s : Script) (t : ℕ) (l : Log) (w : What) (n : ℕ) where
       at true e (step.Ran i m) is fits more go = absurd (false≢true (subst (λ z. starts s t w z ≡ true) is e))
 
   -- another thread than the origin doesn't start it
-  not_origin : (t ≡ origin_of w → ⊥) → (x : Step) → starts s t w x ≡ false
+  pub not_origin : (t ≡ origin_of w → ⊥) → (x : Step) → starts s t w x ≡ false
   not_origin other (step.Did i x) = at (starts s t w (step.Did i x)) refl
     where
       at : (b : Bool) → starts s t w (step.Did i x) ≡ b → b ≡ false
@@ -218,7 +218,7 @@ module _ (s : Script) (t : ℕ) (l : Log) (w : What) (n : ℕ) where
   not_origin other (step.Called i x) = refl
   not_origin other (step.Ran i m) = refl
 
-  not_client : is_client s t ≡ false → (x : Step) → starts s t w x ≡ false
+  pub not_client : is_client s t ≡ false → (x : Step) → starts s t w x ≡ false
   not_client never (step.Did i x) = at (starts s t w (step.Did i x)) refl
     where
       at : (b : Bool) → starts s t w (step.Did i x) ≡ b → b ≡ false
@@ -242,10 +242,10 @@ module _ (r : Record) (logs : List Log) (whole : IsWholeRun r logs) (w : What) w
   abbrev pub goes_of : ℕ → List ℕ
   goes_of t = unwrap_or (option_map (λ l. D_of r.script t l w n_of (steps_with_past l) l.sends) (slice_get logs t)) []
 
-  starts_is : (t : ℕ) (l : Log) → slice_get logs t ≡ Some l → starts_of t ≡ S_of r.script t l w n_of (steps_with_past l) l.sends
+  pub starts_is : (t : ℕ) (l : Log) → slice_get logs t ≡ Some l → starts_of t ≡ S_of r.script t l w n_of (steps_with_past l) l.sends
   starts_is t l e = ap (λ (o : Option Log). unwrap_or (option_map (λ l. S_of r.script t l w n_of (steps_with_past l) l.sends) o) []) e
 
-  goes_is : (t : ℕ) (l : Log) → slice_get logs t ≡ Some l → goes_of t ≡ D_of r.script t l w n_of (steps_with_past l) l.sends
+  pub goes_is : (t : ℕ) (l : Log) → slice_get logs t ≡ Some l → goes_of t ≡ D_of r.script t l w n_of (steps_with_past l) l.sends
   goes_is t l e = ap (λ (o : Option Log). unwrap_or (option_map (λ l. D_of r.script t l w n_of (steps_with_past l) l.sends) o) []) e
 
   pub runs_are : (t : ℕ) (l : Log) → slice_get logs t ≡ Some l → runs_at t ≡ count_tags w l.lines.ran

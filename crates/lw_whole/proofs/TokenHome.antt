@@ -61,7 +61,7 @@ back (what.Visit o k d) = what.Visited k
 back (what.Cast o k) = what.Casted k
 back w = w
 
-completes_back : (t k : ℕ) (o : Option Op) (w v : What) → elim o [ None ↦ None | Some x ↦ token_of_op t k x ] ≡ Some w → completes o k v ≡ true → v ≡ back w
+pub completes_back : (t k : ℕ) (o : Option Op) (w v : What) → elim o [ None ↦ None | Some x ↦ token_of_op t k x ] ≡ Some w → completes o k v ≡ true → v ≡ back w
 completes_back t k None w v e f = cc
 completes_back t k (Some (op.Visit d)) w (what.Visited j) e f =
     let is : what.Visit t k d ≡ w = cc in ap what.Visited (eqb-true j k (and_parts (j == k) true f).0) ∙ ap back is
@@ -108,7 +108,7 @@ module _ (s : Script) (t : ℕ) (w : What) (n : ℕ) (l : Log) where
   Goal rest = (token_of s t (op_of w) ≡ Some w) × (1 ≤ count_of (runs (completes (op_at s t (op_of w)) (op_of w))) rest)
 
   -- behind the line that starts the token its completion is run
-  start_run : (past rest : List Step) (sends : List (List (ℕ × Letter))) → dids_in past + count_of is_a_did rest ≡ length (ops_of s t) + 1 → list_all (λ p. client_line_fits s t p.0 p.1) (with_past past rest) ≡ true
+  pub start_run : (past rest : List Step) (sends : List (List (ℕ × Letter))) → dids_in past + count_of is_a_did rest ≡ length (ops_of s t) + 1 → list_all (λ p. client_line_fits s t p.0 p.1) (with_past past rest) ≡ true
       → 1 ≤ length (S_of s t l w n (with_past past rest) sends) → (token_of s t (op_of w) ≡ Some w) × (1 ≤ count_of (runs (completes (op_at s t (op_of w)) (op_of w))) rest)
   start_run past [] sends total fits some = absurd (omega (arith, some))
   start_run past (x ∷ rest) [] total fits some = absurd (omega (arith, some))
