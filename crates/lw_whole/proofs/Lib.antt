@@ -15,3 +15,4 @@ pub mod TokenRuns
 pub mod TokenFlow
 pub mod TokenHome
 pub mod TokenBack
+pub mod TokenWay

@@ -38,19 +38,19 @@ abbrev pub Among : {X : Type 0} → (X → Type 0) → List X → Type 0
 Among P [] = ⊥
 Among P (x ∷ xs) = P x ⊎ Among P xs
 
-among_either : {X : Type 0} (P : X → Type 0) (xs ys : List X) → Among P (xs ++ ys) → Among P xs ⊎ Among P ys
+pub among_either : {X : Type 0} (P : X → Type 0) (xs ys : List X) → Among P (xs ++ ys) → Among P xs ⊎ Among P ys
 among_either P [] ys h = inr h
 among_either P (x ∷ xs) ys (inl h) = inl (inl h)
 among_either P (x ∷ xs) ys (inr h) = elim (among_either P xs ys h) [ | inl a ↦ inl (inr a) | inr b ↦ inr b ]
 
 -- a completion among letters
-abbrev IsLetter : What → Letter → Type 0
+abbrev pub IsLetter : What → Letter → Type 0
 IsLetter v x = x.tag.what ≡ v
 
-abbrev IsSend : ℕ → What → ℕ × Letter → Type 0
+abbrev pub IsSend : ℕ → What → ℕ × Letter → Type 0
 IsSend o v p = (p.0 ≡ o) × (p.1.tag.what ≡ v)
 
-counted_among : (q : What → Bool) (v : What) → ((u : What) → q u ≡ true → u ≡ v) → (ls : List Letter) → 1 ≤ count_if q (map (λ x. x.tag) ls) → Among (IsLetter v) ls
+pub counted_among : (q : What → Bool) (v : What) → ((u : What) → q u ≡ true → u ≡ v) → (ls : List Letter) → 1 ≤ count_if q (map (λ x. x.tag) ls) → Among (IsLetter v) ls
 counted_among q v is [] some = absurd (omega (arith, some))
 counted_among q v is (x ∷ xs) some = at (q x.tag.what) refl some (λ more. counted_among q v is xs more)
   where
@@ -59,7 +59,7 @@ counted_among q v is (x ∷ xs) some = at (q x.tag.what) refl some (λ more. cou
     at false e some go = inr (go (omega (arith, some)))
 
 -- a letter came of some sender
-of_some_sender : (v : What) (ls : List Letter) → Among (IsLetter v) ls → (s : ℕ) × Among (IsLetter v) (sent_by (λ l. l.tag) s ls)
+pub of_some_sender : (v : What) (ls : List Letter) → Among (IsLetter v) ls → (s : ℕ) × Among (IsLetter v) (sent_by (λ l. l.tag) s ls)
 of_some_sender v [] h = absurd h
 of_some_sender v (x ∷ xs) (inl h) = (x.tag.sender, at (x.tag.sender == x.tag.sender) (eq-eqb x.tag.sender x.tag.sender refl))
   where
@@ -72,7 +72,7 @@ of_some_sender v (x ∷ xs) (inr h) = let rest = of_some_sender v xs h in (rest.
     at s true g = inr g
     at s false g = g
 
-sent_to : (o : ℕ) (v : What) (ps : List (ℕ × Letter)) → Among (IsLetter v) (to_thread o ps) → Among (IsSend o v) ps
+pub sent_to : (o : ℕ) (v : What) (ps : List (ℕ × Letter)) → Among (IsLetter v) (to_thread o ps) → Among (IsSend o v) ps
 sent_to o v [] h = h
 sent_to o v (p ∷ ps) h = at (p.0 == o) refl h (λ g. sent_to o v ps g)
   where
@@ -101,7 +101,7 @@ back_no_token what.Stop e = absurd (false≢true e)
 back_no_token (what.Arrive a b) e = absurd (false≢true e)
 back_no_token (what.Order a b c) e = absurd (false≢true e)
 
-abbrev NoneBack : List (ℕ × What) → Type 0
+abbrev pub NoneBack : List (ℕ × What) → Type 0
 NoneBack ps = AllByRecursion (λ p. is_back p.1 ≡ false) ps
 
 not_among : (o : ℕ) (v : What) (now : List (ℕ × Letter)) → is_back v ≡ true → NoneBack (addressed now) → Among (IsSend o v) now → ⊥
@@ -109,7 +109,7 @@ not_among o v [] e h g = absurd g
 not_among o v (p ∷ ps) e h (inl is) = false≢true (sym h.0 ∙ ap is_back is.1 ∙ e)
 not_among o v (p ∷ ps) e h (inr more) = not_among o v ps e h.1 more
 
-plain_not : (o : ℕ) (v : What) (ps : List (ℕ × What)) (now : List (ℕ × Letter)) → is_back v ≡ true → addressed now ≡ ps → NoneBack ps → Among (IsSend o v) now → ⊥
+pub plain_not : (o : ℕ) (v : What) (ps : List (ℕ × What)) (now : List (ℕ × Letter)) → is_back v ≡ true → addressed now ≡ ps → NoneBack ps → Among (IsSend o v) now → ⊥
 plain_not o v ps now e is h g = not_among o v now e (subst NoneBack (sym is) h) g
 
 -- the token that a completion came of, which the step started or ran
