@@ -1,9 +1,8 @@
 -- The way of a token, by counting: how often each of n threads ran it, and whom each sent it to. `S` has whom its origin
 -- sent it to, `D s` whom thread s did, where `n` stands for home.
-use Rattle.std.proofs.Common.{◌≡◌, ℕ, zero, suc, ◌+◌, ◌-◌, ◌<◌, ◌≤◌, ◌==◌, nat_le, Bool, true, false, cond, List, [], ◌∷◌, length, refl, sym, ap, ap₂, subst, ◌∙◌, arith, inl, inr}
-use Rattle.std.specs.Prelude.{◌⊎◌}
+use Rattle.std.proofs.Common.{◌≡◌, ℕ, zero, suc, ◌+◌, ◌-◌, ◌<◌, ◌≤◌, ◌==◌, nat_le, cond, List, [], ◌∷◌, length, refl, sym, ap, subst, arith, inl, inr}
 use Rattle.std.specs.List.{AllByRecursion}
-use Rattle.std.proofs.lemmas.Bool.{eqb-true, eq-eqb, ne_eqb, leb-true, leb-false, le-leb, lt-leb, cases_eq, cases_lt}
+use Rattle.std.proofs.lemmas.Bool.{eq-eqb, ne_eqb, le-leb, lt-leb, cases_eq, cases_lt}
 
 abbrev pub sum_below : (ℕ → ℕ) → ℕ → ℕ
 sum_below f zero = 0
@@ -73,13 +72,28 @@ from_next u (x ∷ xs) = at (from_next u xs)
   where
     at : count_from u xs ≡ count_at u xs + count_from (suc u) xs → cond (nat_le u x) 1 0 + count_from u xs ≡ (cond (x == u) 1 0 + count_at u xs) + (cond (nat_le (suc u) x) 1 0 + count_from (suc u) xs)
     at rest = elim (cases_eq x u) [
-      | inl same ↦ omega (arith, rest,
-          ap {B = ℕ} (λ b. cond b 1 0) (le-leb u x (omega (arith, same))), ap {B = ℕ} (λ b. cond b 1 0) (eq-eqb x u same), ap {B = ℕ} (λ b. cond b 1 0) (lt-leb (suc u) x (omega (arith, same))))
+      | inl same ↦ omega (
+        arith,
+        rest,
+        ap {B = ℕ} (λ b. cond b 1 0) (le-leb u x (omega (arith, same))),
+        ap {B = ℕ} (λ b. cond b 1 0) (eq-eqb x u same),
+        ap {B = ℕ} (λ b. cond b 1 0) (lt-leb (suc u) x (omega (arith, same))),
+      )
       | inr other ↦ elim (cases_lt x u) [
-        | inl below ↦ omega (arith, rest,
-            ap {B = ℕ} (λ b. cond b 1 0) (lt-leb u x below), ap {B = ℕ} (λ b. cond b 1 0) (ne_eqb x u other), ap {B = ℕ} (λ b. cond b 1 0) (lt-leb (suc u) x (omega (arith, below))))
-        | inr above ↦ omega (arith, rest,
-            ap {B = ℕ} (λ b. cond b 1 0) (le-leb u x above), ap {B = ℕ} (λ b. cond b 1 0) (ne_eqb x u other), ap {B = ℕ} (λ b. cond b 1 0) (le-leb (suc u) x (omega (arith, above, other))))
+        | inl below ↦ omega (
+          arith,
+          rest,
+          ap {B = ℕ} (λ b. cond b 1 0) (lt-leb u x below),
+          ap {B = ℕ} (λ b. cond b 1 0) (ne_eqb x u other),
+          ap {B = ℕ} (λ b. cond b 1 0) (lt-leb (suc u) x (omega (arith, below))),
+        )
+        | inr above ↦ omega (
+          arith,
+          rest,
+          ap {B = ℕ} (λ b. cond b 1 0) (le-leb u x above),
+          ap {B = ℕ} (λ b. cond b 1 0) (ne_eqb x u other),
+          ap {B = ℕ} (λ b. cond b 1 0) (le-leb (suc u) x (omega (arith, above, other))),
+        )
       ]
     ]
 
@@ -129,7 +143,7 @@ module _ (n : ℕ) (c : ℕ → ℕ) (S D : ℕ → List ℕ)
   ]
     where
       first_above : (s u : ℕ) (xs : List ℕ) → AllByRecursion (λ x. s < x) xs → 1 ≤ count_at u xs → s < u
-      first_above s u xs h one = elim (cases_lt s u) [ | inl less ↦ less | inr le ↦ absurd (omega (arith, one, none_at u xs (all_above u s xs le h))) ]
+      first_above s u xs h one = elim (cases_lt s u) [ inl less ↦ less | inr le ↦ absurd (omega (arith, one, none_at u xs (all_above u s xs le h))) ]
 
   module _ (start : sum_below (λ s. length (S s)) n ≤ 1) (home : 1 ≤ sum_below (λ s. count_at n (S s)) n + sum_below (λ s. count_at n (D s)) n) where
     -- how many are under way across u
@@ -173,7 +187,9 @@ module _ (n : ℕ) (c : ℕ → ℕ) (S D : ℕ → List ℕ)
     pub once : (u : ℕ) → u < n → c u ≤ 1
     unfolding crossing
     once u less = omega (
-      arith, one_crosses u (omega (arith, less)), came u less,
+      arith,
+      one_crosses u (omega (arith, less)),
+      came u less,
       sum_cut (λ s. count_at u (D s)) u n (omega (arith, less)) (λ s a b. none_at u (D s) (all_above u s (D s) a (up s b))),
       sum_within (λ s. count_at u (S s)) (λ s. count_from u (S s)) n (λ s b. at_within u (S s)),
       sum_within (λ s. count_at u (D s)) (λ s. count_from u (D s)) u (λ s b. at_within u (D s)),
@@ -187,7 +203,9 @@ module _ (n : ℕ) (c : ℕ → ℕ) (S D : ℕ → List ℕ)
     pub passed : (s v : ℕ) → s < v → v < n → count_at v (D s) ≡ 0 → 1 ≤ count_from v (D s) → c v ≡ 0
     unfolding crossing
     passed s v above less none some = omega (
-      arith, one_crosses v (omega (arith, less)), came v less,
+      arith,
+      one_crosses v (omega (arith, less)),
+      came v less,
       sum_cut (λ k. count_at v (D k)) v n (omega (arith, less)) (λ k a b. none_at v (D k) (all_above v k (D k) a (up k b))),
       sum_within (λ k. count_at v (S k)) (λ k. count_from v (S k)) n (λ k b. at_within v (S k)),
       sum_more (λ k. count_at v (D k)) (λ k. count_from v (D k)) v s (λ k b. at_within v (D k)) above (omega (arith, none, some)),
@@ -196,7 +214,9 @@ module _ (n : ℕ) (c : ℕ → ℕ) (S D : ℕ → List ℕ)
     pub passed_first : (s v : ℕ) → s < n → v < n → count_at v (S s) ≡ 0 → 1 ≤ count_from v (S s) → c v ≡ 0
     unfolding crossing
     passed_first s v there less none some = omega (
-      arith, one_crosses v (omega (arith, less)), came v less,
+      arith,
+      one_crosses v (omega (arith, less)),
+      came v less,
       sum_cut (λ k. count_at v (D k)) v n (omega (arith, less)) (λ k a b. none_at v (D k) (all_above v k (D k) a (up k b))),
       sum_more (λ k. count_at v (S k)) (λ k. count_from v (S k)) n s (λ k b. at_within v (S k)) there (omega (arith, none, some)),
       sum_within (λ k. count_at v (D k)) (λ k. count_from v (D k)) v (λ k b. at_within v (D k)),
@@ -206,7 +226,9 @@ module _ (n : ℕ) (c : ℕ → ℕ) (S D : ℕ → List ℕ)
     pub runs_it : (v : ℕ) → v < n → ((s : ℕ) → s < n → count_from v (S s) ≡ count_at v (S s)) → ((s : ℕ) → s < v → count_from v (D s) ≡ count_at v (D s)) → c v ≡ 1
     unfolding crossing
     runs_it v less first then = omega (
-      arith, one_crosses v (omega (arith, less)), came v less,
+      arith,
+      one_crosses v (omega (arith, less)),
+      came v less,
       sum_cut (λ k. count_at v (D k)) v n (omega (arith, less)) (λ k a b. none_at v (D k) (all_above v k (D k) a (up k b))),
       sum_same (λ s. count_from v (S s)) (λ s. count_at v (S s)) n first,
       sum_same (λ s. count_from v (D s)) (λ s. count_at v (D s)) v then,

@@ -1,37 +1,28 @@
 -- Who sent a completion had run its token, or started it; so a token that was started came home.
-use Rattle.std.proofs.Common.{◌≡◌, ℕ, zero, suc, ◌+◌, ◌<◌, ◌≤◌, ◌==◌, nat_lt, nat_le, Bool, true, false, cond, not, ◌&&◌, ◌||◌, List, [], ◌∷◌, ◌++◌, map, filter, length, Option, Some, None, slice_get, unwrap_or, option_map, option_to_list, refl, sym, ap, ap₂, subst, ◌∙◌, arith, inl, inr, IsTrue}
+use Rattle.std.proofs.Common.{◌≡◌, ℕ, ◌+◌, ◌≤◌, ◌==◌, Bool, true, false, cond, ◌&&◌, List, [], ◌∷◌, ◌++◌, map, filter, Option, Some, None, option_map, option_to_list, refl, sym, ap, ap₂, subst, ◌∙◌, arith, inl, inr}
 use Rattle.std.specs.Prelude.{◌⊎◌, if◌then◌else◌}
-use Rattle.std.specs.List.{list_all, AllByRecursion, flat_map}
-use Rattle.std.proofs.lemmas.Bool.{and_parts, eqb-true, eq-eqb, ne_eqb, false≢true, cases_eq, cases_lt}
-use Rattle.lw_base.specs.declared.message.Tag.{Tag}
+use Rattle.std.specs.List.{AllByRecursion, flat_map}
+use Rattle.std.proofs.lemmas.Bool.{eqb-true, eq-eqb, false≢true}
 use Rattle.lw_base.specs.declared.message.What.{What}
 use Rattle.lw_base.specs.declared.message.What.TheVariants as what
 use Rattle.lw_base.specs.Letters.{sent_by}
 use Rattle.lw_model.specs.declared.script.Script.{Script}
 use Rattle.lw_model.specs.declared.script.Op.{Op}
 use Rattle.lw_model.specs.declared.script.Op.TheVariants as op
-use Rattle.lw_model.specs.declared.record.Record.{Record}
-use Rattle.lw_model.specs.declared.record.Did.{Did}
 use Rattle.lw_model.specs.declared.record.Answer.{Answer}
 use Rattle.lw_model.specs.declared.record.Answer.TheVariants as answer
 use Rattle.lw_model.specs.declared.step.Step.{Step}
 use Rattle.lw_model.specs.declared.step.Step.TheVariants as step
-use Rattle.lw_model.specs.Threads.{thread_count, is_client, is_owner, ops_of, op_at, image_at, images, owner_of}
-use Rattle.lw_model.specs.Holding.{runs, is_started}
-use Rattle.lw_model.specs.Answers.{completes}
-use Rattle.lw_model.specs.Sent.{is_same_token, token_of, token_of_op, completion, referred, sent_last}
+use Rattle.lw_model.specs.Threads.{is_client, is_owner, op_at, image_at, owner_of}
+use Rattle.lw_model.specs.Holding.{runs}
+use Rattle.lw_model.specs.Sent.{is_same_token, token_of, token_of_op, completion, referred}
 use Rattle.lw_whole.specs.Letters.{Letter, Load}
-use Rattle.lw_whole.specs.Logs.{Log, addressed, steps, steps_with_past, all_sends, run_by, sent_by_thread, to_thread}
-use Rattle.lw_whole.specs.Tokens.{GoesOn, empty_load}
+use Rattle.lw_whole.specs.Logs.{Log, addressed, to_thread}
+use Rattle.lw_whole.specs.Tokens.{GoesOn}
 use Rattle.lw_whole.specs.Sends.{Sets, Replies, SentByDid, SentByRan, SentBy, SentAlong}
-use Rattle.lw_whole.specs.WholeRun.{IsWholeRun}
-use Rattle.lw_whole.proofs.Access.{log_of, log_count, ended, client_ended}
-use Rattle.lw_whole.proofs.Numbers.{run_at, none_sent}
-use Rattle.lw_whole.proofs.Flow.{count_at, sum_below, sum_some, sum_has, count_some, ran_started}
-use Rattle.lw_whole.proofs.TokenCounts.{Either, same_is, starts, dest, dests, outs, S_of, D_of, count_at-append, visit_same, cast_same}
-use Rattle.lw_whole.proofs.TokenRuns.{Token, count_of, count_if, count_steps, count_lines}
-use Rattle.lw_whole.proofs.TokenFlow.{origin_of, op_of, n_of, runs_at, starts_of, goes_of, starts_is, goes_is, few, up, came, nothing_passes, not_client, not_origin}
-use Rattle.lw_whole.proofs.TokenHome.{back, completes_back, start_run}
+use Rattle.lw_whole.proofs.Flow.{count_at}
+use Rattle.lw_whole.proofs.TokenCounts.{Either, same_is, starts, dests, S_of, D_of, count_at-append, visit_same, cast_same}
+use Rattle.lw_whole.proofs.TokenRuns.{Token, count_if}
 
 -- one of a list
 abbrev pub Among : {X : Type 0} → (X → Type 0) → List X → Type 0
@@ -41,7 +32,7 @@ Among P (x ∷ xs) = P x ⊎ Among P xs
 pub among_either : {X : Type 0} (P : X → Type 0) (xs ys : List X) → Among P (xs ++ ys) → Among P xs ⊎ Among P ys
 among_either P [] ys h = inr h
 among_either P (x ∷ xs) ys (inl h) = inl (inl h)
-among_either P (x ∷ xs) ys (inr h) = elim (among_either P xs ys h) [ | inl a ↦ inl (inr a) | inr b ↦ inr b ]
+among_either P (x ∷ xs) ys (inr h) = elim (among_either P xs ys h) [ inl a ↦ inl (inr a) | inr b ↦ inr b ]
 
 -- a completion among letters
 abbrev pub IsLetter : What → Letter → Type 0
@@ -209,19 +200,26 @@ module _ (s : Script) (t n o : ℕ) (l : Log) (v : What) (is : is_back v ≡ tru
   of_steps (p ∷ ps) (now ∷ sends) h g = elim (among_either (IsSend o v) now (flat_map (λ now. now) sends) g) [
     | inl here ↦
         let c = of_step p.0 p.1 now h.0 here in (
-          c.token, c.is_token, c.completes,
+          c.token,
+          c.is_token,
+          c.completes,
           omega (
-            arith, count_at-append n (cond (starts s t c.token p.1) (dests n c.token now) []) (S_of s t l c.token n ps sends),
+            arith,
+            count_at-append n (cond (starts s t c.token p.1) (dests n c.token now) []) (S_of s t l c.token n ps sends),
             count_at-append n (cond (runs (is_same_token c.token) p.1) (dests n c.token now) []) (D_of s t l c.token n ps sends),
             either c.token c.home c.by,
           ),
         )
     | inr later ↦
         let c = of_steps ps sends h.1 later in (
-          c.0, c.1, c.2,
+          c.0,
+          c.1,
+          c.2,
           omega (
-            arith, count_at-append n (cond (starts s t c.0 p.1) (dests n c.0 now) []) (S_of s t l c.0 n ps sends),
-            count_at-append n (cond (runs (is_same_token c.0) p.1) (dests n c.0 now) []) (D_of s t l c.0 n ps sends), c.3,
+            arith,
+            count_at-append n (cond (starts s t c.0 p.1) (dests n c.0 now) []) (S_of s t l c.0 n ps sends),
+            count_at-append n (cond (runs (is_same_token c.0) p.1) (dests n c.0 now) []) (D_of s t l c.0 n ps sends),
+            c.3,
           ),
         )
   ]

@@ -1,26 +1,22 @@
 -- How often a token was run, and whom it was sent to, by thread.
-use Rattle.std.proofs.Common.{◌≡◌, ℕ, zero, suc, ◌+◌, ◌<◌, ◌≤◌, ◌==◌, nat_lt, nat_le, Bool, true, false, cond, not, ◌&&◌, ◌||◌, List, [], ◌∷◌, ◌++◌, map, filter, length, Option, Some, None, slice_get, unwrap_or, option_map, option_to_list, count_by, refl, sym, ap, ap₂, subst, ◌∙◌, arith, inl, inr, IsTrue}
-use Rattle.std.specs.Prelude.{◌⊎◌, if◌then◌else◌}
-use Rattle.std.specs.List.{list_all, AllByRecursion, flat_map}
-use Rattle.std.proofs.lemmas.Bool.{and_parts, and_from, eqb-true, eq-eqb, ne_eqb, false≢true, true≢false, cases_eq}
-use Rattle.std.proofs.lemmas.List.Sums.{sum_by-cons}
-use Rattle.lw_base.specs.declared.message.Tag.{Tag}
+use Rattle.std.proofs.Common.{◌≡◌, ℕ, ◌+◌, ◌<◌, ◌==◌, Bool, true, false, cond, ◌&&◌, List, [], ◌∷◌, ◌++◌, map, Option, Some, None, option_map, option_to_list, refl, sym, ap, subst, ◌∙◌, arith, inl, inr}
+use Rattle.std.specs.List.{AllByRecursion, flat_map}
+use Rattle.std.proofs.lemmas.Bool.{and_parts, and_from, eqb-true, eq-eqb, ne_eqb, false≢true}
 use Rattle.lw_base.specs.declared.message.What.{What}
 use Rattle.lw_base.specs.declared.message.What.TheVariants as what
 use Rattle.lw_model.specs.declared.script.Script.{Script}
-use Rattle.lw_model.specs.declared.record.Did.{Did}
 use Rattle.lw_model.specs.declared.record.Answer.{Answer}
 use Rattle.lw_model.specs.declared.record.Answer.TheVariants as answer
 use Rattle.lw_model.specs.declared.step.Step.{Step}
 use Rattle.lw_model.specs.declared.step.Step.TheVariants as step
-use Rattle.lw_model.specs.Threads.{thread_count, owner_of, is_client, is_owner, image_at, images}
+use Rattle.lw_model.specs.Threads.{owner_of, is_client, is_owner, image_at}
 use Rattle.lw_model.specs.Holding.{runs, is_started}
-use Rattle.lw_model.specs.Sent.{is_same_token, token_of, completion, referred, sent_last}
+use Rattle.lw_model.specs.Sent.{is_same_token, token_of, completion, referred}
 use Rattle.lw_whole.specs.Letters.{Letter, Load}
-use Rattle.lw_whole.specs.Logs.{Log, addressed, load_at}
-use Rattle.lw_whole.specs.Tokens.{GoesOn, WentTo, WentHome, empty_load, load_behind}
+use Rattle.lw_whole.specs.Logs.{Log, addressed}
+use Rattle.lw_whole.specs.Tokens.{GoesOn, empty_load}
 use Rattle.lw_whole.specs.Sends.{Sets, SentByDid, SentByRan, SentBy, SentAlong, Replies}
-use Rattle.lw_whole.proofs.Flow.{count_at, count_from}
+use Rattle.lw_whole.proofs.Flow.{count_at}
 
 -- one of two, by a test
 abbrev pub Either : Bool → Type 0 → Type 0 → Type 0
@@ -251,7 +247,9 @@ module _ (s : Script) (t : ℕ) (l : Log) (w : What) (n : ℕ) where
   sent_counts u less (p ∷ ps) [] h = absurd h
   sent_counts u less (p ∷ ps) (now ∷ sends) h =
       omega (
-        arith, count_to-append u w now (flat_map (λ now. now) sends), sent_counts u less ps sends h.1,
+        arith,
+        count_to-append u w now (flat_map (λ now. now) sends),
+        sent_counts u less ps sends h.1,
         count_at-append u (cond (starts s t w p.1) (dests n w now) []) (S_of ps sends),
         count_at-append u (cond (runs (is_same_token w) p.1) (dests n w now) []) (D_of ps sends),
         here (starts s t w p.1) (runs (is_same_token w) p.1) refl refl,

@@ -1,9 +1,8 @@
 -- A token of a whole run meets what the counting of its way asks.
-use Rattle.std.proofs.Common.{◌≡◌, ℕ, zero, suc, ◌+◌, ◌<◌, ◌≤◌, ◌==◌, nat_lt, nat_le, Bool, true, false, cond, not, ◌&&◌, ◌||◌, List, [], ◌∷◌, ◌++◌, map, filter, length, Option, Some, None, slice_get, unwrap_or, option_map, refl, sym, ap, ap₂, subst, ◌∙◌, arith, inl, inr, IsTrue}
+use Rattle.std.proofs.Common.{◌≡◌, ℕ, zero, suc, ◌+◌, ◌<◌, ◌≤◌, ◌==◌, nat_le, Bool, true, false, cond, ◌&&◌, List, [], ◌∷◌, ◌++◌, map, filter, length, Option, Some, None, slice_get, unwrap_or, option_map, refl, sym, ap, subst, ◌∙◌, arith, inl, inr}
 use Rattle.std.specs.Prelude.{if◌then◌else◌, is_none}
-use Rattle.std.specs.List.{list_all, AllByRecursion, flat_map, range_with_len}
+use Rattle.std.specs.List.{list_all, AllByRecursion, flat_map}
 use Rattle.std.proofs.lemmas.Bool.{and_parts, eqb-true, eq-eqb, ne_eqb, false≢true, cases_eq, cases_lt}
-use Rattle.lw_base.specs.declared.message.Tag.{Tag}
 use Rattle.lw_base.specs.declared.message.What.{What}
 use Rattle.lw_base.specs.declared.message.What.TheVariants as what
 use Rattle.lw_base.specs.Letters.{sent_by}
@@ -14,21 +13,21 @@ use Rattle.lw_model.specs.declared.record.Record.{Record}
 use Rattle.lw_model.specs.declared.record.Did.{Did}
 use Rattle.lw_model.specs.declared.step.Step.{Step}
 use Rattle.lw_model.specs.declared.step.Step.TheVariants as step
-use Rattle.lw_model.specs.Threads.{thread_count, is_client, ops_of, op_at, images, owner_of, ran_of}
+use Rattle.lw_model.specs.Threads.{thread_count, is_client, ops_of, op_at, images, owner_of}
 use Rattle.lw_model.specs.OwnOrder.{with_past}
 use Rattle.lw_model.specs.Holding.{is_started}
 use Rattle.lw_model.specs.Answers.{answer_fits, depth_fits}
 use Rattle.lw_model.specs.Sent.{is_same_token, token_of, token_of_op, sent_last}
 use Rattle.lw_whole.specs.Letters.{Letter}
-use Rattle.lw_whole.specs.Logs.{Log, addressed, steps, steps_with_past, all_sends, run_by, sent_by_thread, to_thread}
-use Rattle.lw_whole.specs.Sends.{SentBy, SentAlong}
-use Rattle.lw_whole.specs.Lines.{awaits, is_a_did, dids_in, client_line_fits}
+use Rattle.lw_whole.specs.Logs.{Log, steps, steps_with_past, all_sends, run_by, sent_by_thread, to_thread}
+use Rattle.lw_whole.specs.Sends.{SentAlong}
+use Rattle.lw_whole.specs.Lines.{awaits, dids_in, client_line_fits}
 use Rattle.lw_whole.specs.WholeRun.{IsWholeRun}
-use Rattle.lw_whole.proofs.Access.{log_of, log_count, ended, client_ended, get_within, within_get, past_get}
+use Rattle.lw_whole.proofs.Access.{log_of, log_count, ended, client_ended}
 use Rattle.lw_whole.proofs.Numbers.{run_at, none_sent}
 use Rattle.lw_whole.proofs.Answers.{one_more, one_ran, one_called}
 use Rattle.lw_whole.proofs.Flow.{sum_below, sum_same, sum_both, count_at}
-use Rattle.lw_whole.proofs.TokenCounts.{same_is, NoneIs, done_none, stop_none, none_to, starts, dest, dests, outs, count_to, count_to-append, S_of, D_of, sent_counts}
+use Rattle.lw_whole.proofs.TokenCounts.{same_is, NoneIs, done_none, stop_none, none_to, starts, dests, outs, count_to, count_to-append, S_of, D_of, sent_counts}
 use Rattle.lw_whole.proofs.TokenRuns.{Token, length_append, started_goes, goes_few, count_tags, count_steps, few_of, up_of}
 
 -- ---- runs by sender
@@ -50,9 +49,11 @@ sum_one : (k a n : ℕ) → k < n → sum_below (λ s. cond (k == s) a 0) n ≡ 
 sum_one k a zero less = absurd (omega (arith, less))
 sum_one k a (suc n) less = elim (cases_eq k n) [
   | inl same ↦ omega (
-      arith, ap {B = ℕ} (λ b. cond b a 0) (eq-eqb k n same),
-      sum_same (λ s. cond (k == s) a 0) (λ s. 0) n (λ s b. ap {B = ℕ} (λ z. cond z a 0) (ne_eqb k s (λ e. omega (arith, e, same, b)))), sum_zero n,
-    )
+    arith,
+    ap {B = ℕ} (λ b. cond b a 0) (eq-eqb k n same),
+    sum_same (λ s. cond (k == s) a 0) (λ s. 0) n (λ s b. ap {B = ℕ} (λ z. cond z a 0) (ne_eqb k s (λ e. omega (arith, e, same, b)))),
+    sum_zero n,
+  )
   | inr other ↦ omega (arith, ap {B = ℕ} (λ b. cond b a 0) (ne_eqb k n other), sum_one k a n (omega (arith, less, other)))
 ]
 
@@ -61,9 +62,11 @@ sum_only : (f : ℕ → ℕ) (o n : ℕ) → ((s : ℕ) → s < n → (s ≡ o �
 sum_only f o zero h = omega arith
 sum_only f o (suc n) h = elim (cases_eq n o) [
   | inl same ↦ omega (
-      arith, ap f same,
-      sum_same f (λ s. 0) n (λ s b. h s (omega (arith, b)) (λ e. omega (arith, e, same, b))), sum_zero n,
-    )
+    arith,
+    ap f same,
+    sum_same f (λ s. 0) n (λ s b. h s (omega (arith, b)) (λ e. omega (arith, e, same, b))),
+    sum_zero n,
+  )
   | inr other ↦ omega (arith, sum_only f o n (λ s b no. h s (omega (arith, b)) no), h n (omega arith) other)
 ]
 
@@ -72,9 +75,10 @@ by_sender : (w : What) (n : ℕ) (ls : List Letter) → ((s : ℕ) → n ≤ s �
 by_sender w n [] h = sym (sum_zero n)
 by_sender w n (x ∷ xs) h =
     omega (
-      arith, by_sender w n xs (λ s le. rest s (x.tag.sender == s) (h s le)),
+      arith,
+      by_sender w n xs (λ s le. rest s (x.tag.sender == s) (h s le)),
       sum_same (λ s. count_run w (sent_by (λ l. l.tag) s (x ∷ xs))) (λ s. cond (x.tag.sender == s) (cond (is_same_token w x.tag.what) 1 0) 0 + count_run w (sent_by (λ l. l.tag) s xs)) n
-      (λ s b. one s (x.tag.sender == s)),
+          (λ s b. one s (x.tag.sender == s)),
       sum_both (λ s. cond (x.tag.sender == s) (cond (is_same_token w x.tag.what) 1 0) 0) (λ s. count_run w (sent_by (λ l. l.tag) s xs)) n,
       sum_one x.tag.sender (cond (is_same_token w x.tag.what) 1 0) n below,
     )
@@ -88,7 +92,7 @@ by_sender w n (x ∷ xs) h =
     one s false = omega arith
 
     below : x.tag.sender < n
-    below = elim (cases_lt x.tag.sender n) [ | inl less ↦ less | inr le ↦ absurd (wrong (x.tag.sender == x.tag.sender) (eq-eqb x.tag.sender x.tag.sender refl) (h x.tag.sender le)) ]
+    below = elim (cases_lt x.tag.sender n) [ inl less ↦ less | inr le ↦ absurd (wrong (x.tag.sender == x.tag.sender) (eq-eqb x.tag.sender x.tag.sender refl) (h x.tag.sender le)) ]
       where
         wrong : (b : Bool) → b ≡ true → (if b then x ∷ sent_by (λ l. l.tag) x.tag.sender xs else sent_by (λ l. l.tag) x.tag.sender xs) ≡ [] → ⊥
         wrong true e f = absurd (cons_nil f)
@@ -202,7 +206,9 @@ module _ (s : Script) (t : ℕ) (l : Log) (w : What) (n : ℕ) where
           let place = start_place past i d (subst (λ z. client_line_fits s t past z ≡ true) is fits) (subst (λ z. starts s t w z ≡ true) is e) in
           let later : op_of w < dids_in (x ∷ past) = subst (λ z. op_of w < dids_in (z ∷ past)) (sym is) (omega (arith, place, one_more i d past)) in
           omega (
-            arith, length_append (dests n w now) (S_of s t l w n (with_past (x ∷ past) rest) sends), ap length (none_after (x ∷ past) rest sends later more),
+            arith,
+            length_append (dests n w now) (S_of s t l w n (with_past (x ∷ past) rest) sends),
+            ap length (none_after (x ∷ past) rest sends later more),
             goes_few s w n 0 _ now (started_goes s t l w past x now e h.0),
           )
       at true e (step.Called i d) is fits more go = absurd (false≢true (subst (λ z. starts s t w z ≡ true) is e))
@@ -255,7 +261,10 @@ module _ (r : Record) (logs : List Log) (whole : IsWholeRun r logs) (w : What) w
   few tok t less =
       let l = log_of r logs whole t less in
       omega (
-        arith, ap length (goes_is t l.0 l.1), runs_are t l.0 l.1, count_steps (is_same_token w) l.0,
+        arith,
+        ap length (goes_is t l.0 l.1),
+        runs_are t l.0 l.1,
+        count_steps (is_same_token w) l.0,
         few_of r.script t l.0 w n_of tok less [] (steps l.0) l.0.sends (ended r logs whole t l.0 l.1).sends.at_steps,
       )
 
@@ -269,11 +278,13 @@ module _ (r : Record) (logs : List Log) (whole : IsWholeRun r logs) (w : What) w
   sends_count u t less there =
       let l = log_of r logs whole t there in
       omega (
-        arith, ap (λ (o : Option Log). count_to u w (unwrap_or (option_map all_sends o) [])) l.1,
+        arith,
+        ap (λ (o : Option Log). count_to u w (unwrap_or (option_map all_sends o) [])) l.1,
         count_to-append u w (flat_map (λ now. now) l.0.sends) l.0.last,
         sent_counts r.script t l.0 w n_of u less (steps_with_past l.0) l.0.sends (ended r logs whole t l.0 l.1).sends.at_steps,
         none_to u w l.0.last (subst (NoneIs w) (sym (ended r logs whole t l.0 l.1).sends.at_end) (last_none r.script t w)),
-        ap (count_at u) (starts_is t l.0 l.1), ap (count_at u) (goes_is t l.0 l.1),
+        ap (count_at u) (starts_is t l.0 l.1),
+        ap (count_at u) (goes_is t l.0 l.1),
       )
 
   pub came : (u : ℕ) → u < n_of → runs_at u ≡ sum_below (λ s. count_at u (starts_of s)) n_of + sum_below (λ s. count_at u (goes_of s)) n_of

@@ -1,39 +1,28 @@
 -- A token that was started came home: its origin ended, so it ran the completion, which was sent behind the last thread.
-use Rattle.std.proofs.Common.{◌≡◌, ℕ, zero, suc, ◌+◌, ◌<◌, ◌≤◌, ◌==◌, nat_lt, nat_le, Bool, true, false, cond, not, ◌&&◌, ◌||◌, List, [], ◌∷◌, ◌++◌, map, filter, length, Option, Some, None, slice_get, unwrap_or, option_map, option_to_list, refl, sym, ap, ap₂, subst, ◌∙◌, arith, inl, inr, IsTrue}
-use Rattle.std.specs.Prelude.{◌⊎◌, if◌then◌else◌, is_none}
-use Rattle.std.specs.List.{list_all, AllByRecursion, flat_map}
-use Rattle.std.proofs.lemmas.Bool.{and_parts, eqb-true, eq-eqb, ne_eqb, false≢true, cases_eq, cases_lt}
-use Rattle.lw_base.specs.declared.message.Tag.{Tag}
+use Rattle.std.proofs.Common.{◌≡◌, ℕ, ◌+◌, ◌<◌, ◌≤◌, ◌==◌, nat_le, Bool, true, false, cond, ◌&&◌, List, [], ◌∷◌, ◌++◌, length, Option, Some, None, refl, sym, ap, subst, ◌∙◌, arith}
+use Rattle.std.specs.Prelude.{is_none}
+use Rattle.std.specs.List.{list_all}
+use Rattle.std.proofs.lemmas.Bool.{and_parts, eqb-true, false≢true}
 use Rattle.lw_base.specs.declared.message.What.{What}
 use Rattle.lw_base.specs.declared.message.What.TheVariants as what
-use Rattle.lw_base.specs.Letters.{sent_by}
 use Rattle.lw_model.specs.declared.script.Script.{Script}
 use Rattle.lw_model.specs.declared.script.Op.{Op}
 use Rattle.lw_model.specs.declared.script.Op.TheVariants as op
-use Rattle.lw_model.specs.declared.record.Record.{Record}
-use Rattle.lw_model.specs.declared.record.Did.{Did}
-use Rattle.lw_model.specs.declared.record.Answer.{Answer}
-use Rattle.lw_model.specs.declared.record.Answer.TheVariants as answer
 use Rattle.lw_model.specs.declared.step.Step.{Step}
 use Rattle.lw_model.specs.declared.step.Step.TheVariants as step
-use Rattle.lw_model.specs.Threads.{thread_count, is_client, is_owner, ops_of, op_at, image_at, images, owner_of}
+use Rattle.lw_model.specs.Threads.{ops_of, op_at}
 use Rattle.lw_model.specs.OwnOrder.{with_past}
-use Rattle.lw_model.specs.Holding.{runs, is_started}
+use Rattle.lw_model.specs.Holding.{runs}
 use Rattle.lw_model.specs.Answers.{completes, answer_fits, depth_fits}
-use Rattle.lw_model.specs.Sent.{is_same_token, token_of, token_of_op, completion, referred, sent_last}
+use Rattle.lw_model.specs.Sent.{token_of, token_of_op}
 use Rattle.lw_whole.specs.Letters.{Letter}
-use Rattle.lw_whole.specs.Logs.{Log, addressed, steps, steps_with_past, all_sends, run_by, sent_by_thread, to_thread}
-use Rattle.lw_whole.specs.Tokens.{GoesOn, empty_load}
-use Rattle.lw_whole.specs.Sends.{Sets, Replies, SentByDid, SentByRan, SentBy, SentAlong}
+use Rattle.lw_whole.specs.Logs.{Log}
 use Rattle.lw_whole.specs.Lines.{awaits, is_a_did, dids_in, client_line_fits}
-use Rattle.lw_whole.specs.WholeRun.{IsWholeRun}
-use Rattle.lw_whole.proofs.Access.{log_of, log_count, ended, client_ended, within_get}
+use Rattle.lw_whole.proofs.Access.{within_get}
 use Rattle.lw_whole.proofs.Answers.{one_more, one_ran, one_called}
-use Rattle.lw_whole.proofs.Numbers.{run_at, none_sent}
-use Rattle.lw_whole.proofs.Flow.{count_at, sum_below, sum_some, sum_has, count_some}
-use Rattle.lw_whole.proofs.TokenCounts.{Either, same_is, starts, dest, dests, outs, S_of, D_of, count_at-append, visit_same, cast_same}
-use Rattle.lw_whole.proofs.TokenRuns.{Token, count_of, count_if, count_steps, count_lines, length_append}
-use Rattle.lw_whole.proofs.TokenFlow.{origin_of, op_of, starts_at, n_of, starts_of, goes_of}
+use Rattle.lw_whole.proofs.TokenCounts.{starts, dests, S_of}
+use Rattle.lw_whole.proofs.TokenRuns.{count_of}
+use Rattle.lw_whole.proofs.TokenFlow.{op_of, starts_at}
 
 -- ---- the origin runs the completion
 

@@ -1,33 +1,27 @@
 -- The counts of a token in a whole run: what goes on from a thread was run there, and what was run had been sent.
-use Rattle.std.proofs.Common.{◌≡◌, ℕ, zero, suc, ◌+◌, ◌<◌, ◌≤◌, ◌==◌, nat_lt, nat_le, Bool, true, false, cond, not, ◌&&◌, ◌||◌, List, [], ◌∷◌, ◌++◌, map, filter, length, Option, Some, None, slice_get, unwrap_or, option_map, refl, sym, ap, ap₂, subst, ◌∙◌, arith, inl, inr, IsTrue}
-use Rattle.std.specs.Prelude.{◌⊎◌, if◌then◌else◌}
-use Rattle.std.specs.List.{list_all, AllByRecursion, flat_map, enumerate_from}
-use Rattle.std.proofs.lemmas.Bool.{and_parts, eqb-true, eq-eqb, ne_eqb, false≢true, cases_eq, cases_lt}
+use Rattle.std.proofs.Common.{◌≡◌, ℕ, ◌+◌, ◌<◌, ◌≤◌, nat_le, Bool, true, false, cond, ◌&&◌, List, [], ◌∷◌, ◌++◌, map, length, Option, Some, None, refl, sym, ap, subst, ◌∙◌, arith, inl, inr}
+use Rattle.std.specs.List.{AllByRecursion, enumerate_from}
+use Rattle.std.proofs.lemmas.Bool.{false≢true}
 use Rattle.lw_base.specs.declared.message.Tag.{Tag}
 use Rattle.lw_base.specs.declared.message.What.{What}
 use Rattle.lw_base.specs.declared.message.What.TheVariants as what
-use Rattle.lw_base.specs.Letters.{sent_by}
 use Rattle.lw_model.specs.declared.script.Script.{Script}
-use Rattle.lw_model.specs.declared.script.Op.{Op}
-use Rattle.lw_model.specs.declared.script.Op.TheVariants as op
-use Rattle.lw_model.specs.declared.record.ThreadRecord.{ThreadRecord}
 use Rattle.lw_model.specs.declared.record.Did.{Did}
 use Rattle.lw_model.specs.declared.record.Answer.{Answer}
 use Rattle.lw_model.specs.declared.record.Answer.TheVariants as answer
 use Rattle.lw_model.specs.declared.step.Step.{Step}
 use Rattle.lw_model.specs.declared.step.Step.TheVariants as step
-use Rattle.lw_model.specs.Threads.{thread_count, is_client, op_at, images, owner_of}
-use Rattle.lw_model.specs.OwnOrder.{own_order, put_in, in_order, at_of, with_past}
+use Rattle.lw_model.specs.Threads.{is_client}
+use Rattle.lw_model.specs.OwnOrder.{put_in, in_order, at_of, with_past}
 use Rattle.lw_model.specs.Holding.{runs, is_started}
-use Rattle.lw_model.specs.Sent.{is_same_token, token_of, token_of_op, completion, sent_last}
-use Rattle.lw_model.proofs.Growth.{dids, calleds, rans}
+use Rattle.lw_model.specs.Sent.{is_same_token, token_of, completion}
+use Rattle.lw_model.proofs.Growth.{dids, rans}
 use Rattle.lw_whole.specs.Letters.{Letter, Load}
-use Rattle.lw_whole.specs.Logs.{Log, addressed, load_at, steps, steps_with_past, all_sends, run_by, sent_by_thread, to_thread, without_callbacks}
+use Rattle.lw_whole.specs.Logs.{Log, addressed, load_at, steps}
 use Rattle.lw_whole.specs.Tokens.{GoesOn, empty_load, load_behind}
 use Rattle.lw_whole.specs.Sends.{Sets, SentByDid, SentByRan, SentBy, SentAlong}
 use Rattle.lw_whole.specs.Lines.{is_a_did}
-use Rattle.lw_whole.proofs.Flow.{sum_below, sum_same, sum_both, count_at}
-use Rattle.lw_whole.proofs.TokenCounts.{Either, same_is, NoneIs, not_completion, plain_none, done_none, stop_none, none_to, starts, dest, dests, outs, count_to, count_to-append, S_of, D_of, sent_counts}
+use Rattle.lw_whole.proofs.TokenCounts.{Either, same_is, NoneIs, not_completion, starts, dests, D_of}
 
 -- ---- what a token's step sends
 

@@ -1,28 +1,24 @@
 -- The way of each token of a whole run.
-use Rattle.std.proofs.Common.{◌≡◌, ℕ, zero, suc, ◌+◌, ◌<◌, ◌≤◌, ◌==◌, Bool, true, false, cond, List, [], ◌∷◌, ◌++◌, map, length, Option, Some, None, slice_get, unwrap_or, option_map, refl, sym, ap, ap₂, subst, ◌∙◌, arith, inl, inr, IsTrue}
-use Rattle.std.specs.Prelude.{◌⊎◌}
-use Rattle.std.specs.List.{list_all, AllByRecursion, flat_map}
+use Rattle.std.proofs.Common.{◌≡◌, ℕ, suc, ◌+◌, ◌<◌, ◌≤◌, ◌==◌, Bool, true, false, cond, List, [], ◌∷◌, map, length, Option, Some, slice_get, unwrap_or, option_map, refl, sym, ap, ap₂, subst, ◌∙◌, arith, inl, inr}
+use Rattle.std.specs.List.{flat_map}
 use Rattle.std.proofs.lemmas.Bool.{false≢true, cases_eq, cases_lt}
-use Rattle.lw_base.specs.declared.message.Tag.{Tag}
 use Rattle.lw_base.specs.declared.message.What.{What}
 use Rattle.lw_base.specs.declared.message.What.TheVariants as what
 use Rattle.lw_base.specs.Letters.{sent_by}
 use Rattle.lw_model.specs.declared.script.Script.{Script}
 use Rattle.lw_model.specs.declared.record.Record.{Record}
-use Rattle.lw_model.specs.declared.step.Step.{Step}
-use Rattle.lw_model.specs.Threads.{thread_count, is_client, ops_of, op_at, images, owner_of}
+use Rattle.lw_model.specs.Threads.{thread_count, is_client, op_at, images, owner_of}
 use Rattle.lw_model.specs.Holding.{runs}
 use Rattle.lw_model.specs.Answers.{completes}
-use Rattle.lw_model.specs.Sent.{is_same_token, token_of, completion, sent_last}
-use Rattle.lw_whole.specs.Letters.{Letter}
-use Rattle.lw_whole.specs.Logs.{Log, addressed, steps, steps_with_past, all_sends, run_by, sent_by_thread, to_thread}
+use Rattle.lw_model.specs.Sent.{token_of, completion, sent_last}
+use Rattle.lw_whole.specs.Logs.{Log, steps, steps_with_past, all_sends, sent_by_thread}
 use Rattle.lw_whole.specs.WholeRun.{IsWholeRun}
 use Rattle.lw_whole.proofs.Access.{log_of, log_count, ended, client_ended}
 use Rattle.lw_whole.proofs.Numbers.{run_at, none_sent}
 use Rattle.lw_whole.proofs.Flow.{count_at, sum_below, sum_some, sum_has, count_some, ran_started}
 use Rattle.lw_whole.proofs.TokenCounts.{starts, S_of, D_of}
 use Rattle.lw_whole.proofs.TokenRuns.{Token, count_of, count_if, count_steps, count_lines}
-use Rattle.lw_whole.proofs.TokenFlow.{origin_of, op_of, n_of, runs_at, starts_of, goes_of, starts_is, goes_is, few, up, came, nothing_passes, not_client, not_origin}
+use Rattle.lw_whole.proofs.TokenFlow.{origin_of, op_of, runs_at, starts_of, goes_of, starts_is, goes_is, few, up, came, nothing_passes, not_client, not_origin}
 use Rattle.lw_whole.proofs.TokenHome.{back, completes_back, start_run}
 use Rattle.lw_whole.proofs.TokenBack.{Among, IsLetter, IsSend, among_either, counted_among, of_some_sender, sent_to, is_back, NoneBack, plain_not, of_steps}
 
@@ -140,17 +136,17 @@ module _ (r : Record) (logs : List Log) (whole : IsWholeRun r logs) where
       let b = begun w some in
       let is = back_is_back w tok in
       let ran : Among (IsLetter (back w)) b.log.ran = counted_among (completes (op_at r.script b.thread (op_of w)) (op_of w)) (back w) (λ v e. completes_back b.thread (op_of w) (op_at r.script b.thread (op_of w)) w v b.token e) b.log.ran
-          (omega (arith, b.completed, count_steps (completes (op_at r.script b.thread (op_of w)) (op_of w)) b.log, ap (count_if (completes (op_at r.script b.thread (op_of w)) (op_of w))) (ended r logs whole b.thread b.log b.of_thread).tags)) in
+      (omega (arith, b.completed, count_steps (completes (op_at r.script b.thread (op_of w)) (op_of w)) b.log, ap (count_if (completes (op_at r.script b.thread (op_of w)) (op_of w))) (ended r logs whole b.thread b.log b.of_thread).tags)) in
       let by = of_some_sender (back w) b.log.ran ran in
       let sent : Among (IsSend b.thread (back w)) (sent_by_thread logs by.0) = sent_to b.thread (back w) (sent_by_thread logs by.0)
-          (subst (Among (IsLetter (back w))) (ap (sent_by (λ l. l.tag) by.0) (sym (run_at logs b.thread b.log b.of_thread)) ∙ whole.rings.run_is_sent b.thread by.0 (omega (arith, b.within, log_count r logs whole))) by.1) in
+      (subst (Among (IsLetter (back w))) (ap (sent_by (λ l. l.tag) by.0) (sym (run_at logs b.thread b.log b.of_thread)) ∙ whole.rings.run_is_sent b.thread by.0 (omega (arith, b.within, log_count r logs whole))) by.1) in
       at b is.0 is.1 by.0 sent
     where
       last_not : (s : ℕ) (l : Log) (o : ℕ) (v : What) → slice_get logs s ≡ Some l → is_back v ≡ true → Among (IsSend o v) l.last → ⊥
       last_not s l o v e back g = plain_not o v (sent_last r.script s) l.last back (ended r logs whole s l e).sends.at_end (last_back r.script s) g
 
       within : (s o : ℕ) (v : What) → Among (IsSend o v) (sent_by_thread logs s) → s < thread_count r.script
-      within s o v g = elim (cases_lt s (thread_count r.script)) [ | inl less ↦ less | inr le ↦ absurd (subst (Among (IsSend o v)) (none_sent logs s (omega (arith, le, log_count r logs whole))) g) ]
+      within s o v g = elim (cases_lt s (thread_count r.script)) [ inl less ↦ less | inr le ↦ absurd (subst (Among (IsSend o v)) (none_sent logs s (omega (arith, le, log_count r logs whole))) g) ]
 
       same_token : (t k : ℕ) (u : What) → token_of r.script t k ≡ Some w → token_of r.script t k ≡ Some u → u ≡ w
       same_token t k u e f = let both : Some w ≡ Some u = sym e ∙ f in cc
@@ -161,7 +157,10 @@ module _ (r : Record) (logs : List Log) (whole : IsWholeRun r logs) where
       count_home u same s less l e h =
           let h' = subst (λ v. 1 ≤ count_at (thread_count r.script) (S_of r.script s l v (thread_count r.script) (steps_with_past l) l.sends) + count_at (thread_count r.script) (D_of r.script s l v (thread_count r.script) (steps_with_past l) l.sends)) same h in
           omega (
-            arith, h', ap (count_at (thread_count r.script)) (starts_is r logs whole w s l e), ap (count_at (thread_count r.script)) (goes_is r logs whole w s l e),
+            arith,
+            h',
+            ap (count_at (thread_count r.script)) (starts_is r logs whole w s l e),
+            ap (count_at (thread_count r.script)) (goes_is r logs whole w s l e),
             sum_has (λ s. count_at (thread_count r.script) (starts_of r logs whole w s)) (thread_count r.script) s less,
             sum_has (λ s. count_at (thread_count r.script) (goes_of r logs whole w s)) (thread_count r.script) s less,
           )
