@@ -20,7 +20,7 @@ use Rattle.lw_whole.specs.Logs.{Log}
 use Rattle.lw_whole.specs.Lines.{awaits, is_a_did, dids_in, client_line_fits}
 use Rattle.lw_whole.proofs.Access.{within_get}
 use Rattle.lw_whole.proofs.Answers.{one_more, one_ran, one_called}
-use Rattle.lw_whole.proofs.TokenCounts.{starts, dests, S_of}
+use Rattle.lw_whole.proofs.TokenCounts.{starts, dests, S_of, outs}
 use Rattle.lw_whole.proofs.TokenRuns.{count_of}
 use Rattle.lw_whole.proofs.TokenFlow.{op_of, starts_at}
 
@@ -92,18 +92,31 @@ completes_back t k (Some (op.Flush d)) w v e f = cc
 completes_back t k (Some (op.Wait d)) w v e f = cc
 completes_back t k (Some (op.Unregister d)) w v e f = cc
 
-module _ (s : Script) (t : ℕ) (w : What) (n : ℕ) (l : Log) where
+-- what went out was sent at steps that pass
+pub outs_some : (p : Step → Bool) (n : ℕ) (w : What) (past rest : List Step) (sends : List (List (ℕ × Letter))) → 1 ≤ length (outs p n w (with_past past rest) sends) → 1 ≤ count_of p rest
+outs_some p n w past [] sends h = absurd (omega (arith, h))
+outs_some p n w past (x ∷ rest) [] h = absurd (omega (arith, h))
+outs_some p n w past (x ∷ rest) (now ∷ sends) h = at (p x) h (λ more. outs_some p n w (x ∷ past) rest sends more)
+  where
+    at : (b : Bool) → 1 ≤ length (cond b (dests n w now) [] ++ outs p n w (with_past (x ∷ past) rest) sends) → (1 ≤ length (outs p n w (with_past (x ∷ past) rest) sends) → 1 ≤ count_of p rest) → 1 ≤ cond b 1 0 + count_of p rest
+    at true h go = omega arith
+    at false h go = omega (arith, go h)
+
+pub none_pass : (p : Step → Bool) → ((x : Step) → p x ≡ false) → (ss : List Step) → count_of p ss ≡ 0
+none_pass p never [] = refl
+none_pass p never (x ∷ ss) = omega (arith, ap {B = ℕ} (λ b. cond b 1 0) (never x), none_pass p never ss)
+
+module _ (s : Script) (t : ℕ) (w : What) where
   abbrev Goal : List Step → Type 0
   Goal rest = (token_of s t (op_of w) ≡ Some w) × (1 ≤ count_of (runs (completes (op_at s t (op_of w)) (op_of w))) rest)
 
   -- behind the line that starts the token its completion is run
-  pub start_run : (past rest : List Step) (sends : List (List (ℕ × Letter))) → dids_in past + count_of is_a_did rest ≡ length (ops_of s t) + 1 → list_all (λ p. client_line_fits s t p.0 p.1) (with_past past rest) ≡ true
-      → 1 ≤ length (S_of s t l w n (with_past past rest) sends) → (token_of s t (op_of w) ≡ Some w) × (1 ≤ count_of (runs (completes (op_at s t (op_of w)) (op_of w))) rest)
-  start_run past [] sends total fits some = absurd (omega (arith, some))
-  start_run past (x ∷ rest) [] total fits some = absurd (omega (arith, some))
-  start_run past (x ∷ rest) (now ∷ sends) total fits some =
+  pub start_run : (past rest : List Step) → dids_in past + count_of is_a_did rest ≡ length (ops_of s t) + 1 → list_all (λ p. client_line_fits s t p.0 p.1) (with_past past rest) ≡ true
+      → 1 ≤ count_of (starts s t w) rest → (token_of s t (op_of w) ≡ Some w) × (1 ≤ count_of (runs (completes (op_at s t (op_of w)) (op_of w))) rest)
+  start_run past [] total fits some = absurd (omega (arith, some))
+  start_run past (x ∷ rest) total fits some =
       let both = and_parts (client_line_fits s t past x) (list_all (λ p. client_line_fits s t p.0 p.1) (with_past (x ∷ past) rest)) fits in
-      at (starts s t w x) refl x refl both.0 both.1 some (λ more. start_run (x ∷ past) rest sends (step_total x total) both.1 more)
+      at (starts s t w x) refl x refl both.0 both.1 some (λ more. start_run (x ∷ past) rest (step_total x total) both.1 more)
     where
       step_total : (x : Step) → dids_in past + count_of is_a_did (x ∷ rest) ≡ length (ops_of s t) + 1 → dids_in (x ∷ past) + count_of is_a_did rest ≡ length (ops_of s t) + 1
       step_total (step.Did i d) h = omega (arith, h, one_more i d past)
@@ -114,8 +127,8 @@ module _ (s : Script) (t : ℕ) (w : What) (n : ℕ) (l : Log) where
       wider x g = (g.0, omega (arith, g.1))
 
       at : (b : Bool) → starts s t w x ≡ b → (y : Step) → x ≡ y → client_line_fits s t past x ≡ true → list_all (λ p. client_line_fits s t p.0 p.1) (with_past (x ∷ past) rest) ≡ true
-          → 1 ≤ length (cond b (dests n w now) [] ++ S_of s t l w n (with_past (x ∷ past) rest) sends) → (1 ≤ length (S_of s t l w n (with_past (x ∷ past) rest) sends) → Goal rest) → Goal (x ∷ rest)
-      at false e y is fits more some go = wider x (go some)
+          → 1 ≤ cond b 1 0 + count_of (starts s t w) rest → (1 ≤ count_of (starts s t w) rest → Goal rest) → Goal (x ∷ rest)
+      at false e y is fits more some go = wider x (go (omega (arith, some)))
       at true e (step.Did i d) is fits more some go =
           let f = starts_at s t w i d (subst (λ z. starts s t w z ≡ true) is e) in
           let token : token_of s t (op_of w) ≡ Some w = ap (token_of s t) (sym f.1) ∙ f.4 in

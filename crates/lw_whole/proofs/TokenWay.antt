@@ -19,7 +19,7 @@ use Rattle.lw_whole.proofs.Flow.{count_at, sum_below, sum_some, sum_has, count_s
 use Rattle.lw_whole.proofs.TokenCounts.{starts, S_of, D_of}
 use Rattle.lw_whole.proofs.TokenRuns.{Token, count_of, count_if, count_steps, count_lines}
 use Rattle.lw_whole.proofs.TokenFlow.{origin_of, op_of, runs_at, starts_of, goes_of, starts_is, goes_is, few, up, came, nothing_passes, not_client, not_origin}
-use Rattle.lw_whole.proofs.TokenHome.{back, completes_back, start_run}
+use Rattle.lw_whole.proofs.TokenHome.{back, completes_back, start_run, outs_some, none_pass}
 use Rattle.lw_whole.proofs.TokenBack.{Among, IsLetter, IsSend, among_either, counted_among, of_some_sender, sent_to, is_back, NoneBack, plain_not, of_steps}
 
 -- the op of a completion
@@ -95,25 +95,30 @@ pub record Begun (r : Record) (logs : List Log) (w : What) : Type 0 where
   pub completed : 1 ≤ count_of (runs (completes (op_at r.script thread (op_of w)) (op_of w))) (steps log)
 
 module _ (r : Record) (logs : List Log) (whole : IsWholeRun r logs) where
-  begun : (w : What) → 1 ≤ sum_below (λ s. length (starts_of r logs whole w s)) (thread_count r.script) → Begun r logs w
+  -- a thread that has a line which starts the token
+  pub begun_at : (w : What) (t : ℕ) (l : Log) → slice_get logs t ≡ Some l → t < thread_count r.script → 1 ≤ count_of (starts r.script t w) (steps l) → Begun r logs w
+  begun_at w t l e less some =
+      let c = client (is_client r.script t) refl in
+      let ends = client_ended r logs whole t l e c in
+      let run = start_run r.script t w [] (steps l) (omega (arith, count_lines l, ends.count)) ends.fit some in
+      record { thread = t; log = l; of_thread = e; within = less; origin = origin; client = c; token = run.0; completed = run.1 }
+    where
+      client : (b : Bool) → is_client r.script t ≡ b → is_client r.script t ≡ true
+      client true f = f
+      client false f = absurd (omega (arith, some, none_pass (starts r.script t w) (not_client r.script t l w (thread_count r.script) f) (steps l)))
+
+      origin : t ≡ origin_of w
+      origin = elim (cases_eq t (origin_of w)) [
+        | inl same ↦ same
+        | inr other ↦ absurd (omega (arith, some, none_pass (starts r.script t w) (not_origin r.script t l w (thread_count r.script) other) (steps l)))
+      ]
+
+  pub begun : (w : What) → 1 ≤ sum_below (λ s. length (starts_of r logs whole w s)) (thread_count r.script) → Begun r logs w
   begun w some =
       let by = sum_some (λ s. length (starts_of r logs whole w s)) (thread_count r.script) some in
       let l = log_of r logs whole by.0 by.1 in
-      let sends : 1 ≤ length (S_of r.script by.0 l.0 w (thread_count r.script) (steps_with_past l.0) l.0.sends) = subst (λ us. 1 ≤ length us) (starts_is r logs whole w by.0 l.0 l.1) by.2 in
-      let c = client by.0 l.0 sends (is_client r.script by.0) refl in
-      let e = client_ended r logs whole by.0 l.0 l.1 c in
-      let run = start_run r.script by.0 w (thread_count r.script) l.0 [] (steps l.0) l.0.sends (omega (arith, count_lines l.0, e.count)) e.fit sends in
-      record { thread = by.0; log = l.0; of_thread = l.1; within = by.1; origin = origin by.0 l.0 sends; client = c; token = run.0; completed = run.1 }
-    where
-      client : (t : ℕ) (l : Log) → 1 ≤ length (S_of r.script t l w (thread_count r.script) (steps_with_past l) l.sends) → (b : Bool) → is_client r.script t ≡ b → is_client r.script t ≡ true
-      client t l h true e = e
-      client t l h false e = absurd (omega (arith, h, ap length (nothing_passes (starts r.script t w) (thread_count r.script) w (steps_with_past l) l.sends (not_client r.script t l w (thread_count r.script) e))))
-
-      origin : (t : ℕ) (l : Log) → 1 ≤ length (S_of r.script t l w (thread_count r.script) (steps_with_past l) l.sends) → t ≡ origin_of w
-      origin t l h = elim (cases_eq t (origin_of w)) [
-        | inl same ↦ same
-        | inr other ↦ absurd (omega (arith, h, ap length (nothing_passes (starts r.script t w) (thread_count r.script) w (steps_with_past l) l.sends (not_origin r.script t l w (thread_count r.script) other))))
-      ]
+      begun_at w by.0 l.0 l.1 by.1
+      (outs_some (starts r.script by.0 w) (thread_count r.script) w [] (steps l.0) l.0.sends (subst (λ us. 1 ≤ length us) (starts_is r logs whole w by.0 l.0 l.1) by.2))
 
   -- what of token u came home at the sender of a completion
   started_by : (u : What) → Token u → (s : ℕ) → s < thread_count r.script → (l : Log) → slice_get logs s ≡ Some l
@@ -130,10 +135,9 @@ module _ (r : Record) (logs : List Log) (whole : IsWholeRun r logs) where
   ]
 
   -- a token that was started came home
-  pub home : (w : What) → Token w → 1 ≤ sum_below (λ s. length (starts_of r logs whole w s)) (thread_count r.script)
+  pub home : (w : What) → Token w → Begun r logs w
       → 1 ≤ sum_below (λ s. count_at (thread_count r.script) (starts_of r logs whole w s)) (thread_count r.script) + sum_below (λ s. count_at (thread_count r.script) (goes_of r logs whole w s)) (thread_count r.script)
-  home w tok some =
-      let b = begun w some in
+  home w tok b =
       let is = back_is_back w tok in
       let ran : Among (IsLetter (back w)) b.log.ran = counted_among (completes (op_at r.script b.thread (op_of w)) (op_of w)) (back w) (λ v e. completes_back b.thread (op_of w) (op_at r.script b.thread (op_of w)) w v b.token e) b.log.ran
       (omega (arith, b.completed, count_steps (completes (op_at r.script b.thread (op_of w)) (op_of w)) b.log, ap (count_if (completes (op_at r.script b.thread (op_of w)) (op_of w))) (ended r logs whole b.thread b.log b.of_thread).tags)) in
