@@ -16,3 +16,4 @@ pub mod TokenFlow
 pub mod TokenHome
 pub mod TokenBack
 pub mod TokenWay
+pub mod Once

@@ -16,11 +16,10 @@ use Rattle.lw_model.specs.Holding.{runs}
 use Rattle.lw_model.specs.Answers.{completes, answer_fits, depth_fits}
 use Rattle.lw_model.specs.Sent.{token_of, token_of_op}
 use Rattle.lw_whole.specs.Letters.{Letter}
-use Rattle.lw_whole.specs.Logs.{Log}
 use Rattle.lw_whole.specs.Lines.{awaits, is_a_did, dids_in, client_line_fits}
 use Rattle.lw_whole.proofs.Access.{within_get}
 use Rattle.lw_whole.proofs.Answers.{one_more, one_ran, one_called}
-use Rattle.lw_whole.proofs.TokenCounts.{starts, dests, S_of, outs}
+use Rattle.lw_whole.proofs.TokenCounts.{starts, dests, outs}
 use Rattle.lw_whole.proofs.TokenRuns.{count_of}
 use Rattle.lw_whole.proofs.TokenFlow.{op_of, starts_at}
 

@@ -18,7 +18,7 @@ use Rattle.lw_whole.proofs.Numbers.{run_at, none_sent}
 use Rattle.lw_whole.proofs.Flow.{count_at, sum_below, sum_some, sum_has, count_some, ran_started}
 use Rattle.lw_whole.proofs.TokenCounts.{starts, S_of, D_of}
 use Rattle.lw_whole.proofs.TokenRuns.{Token, count_of, count_if, count_steps, count_lines}
-use Rattle.lw_whole.proofs.TokenFlow.{origin_of, op_of, runs_at, starts_of, goes_of, starts_is, goes_is, few, up, came, nothing_passes, not_client, not_origin}
+use Rattle.lw_whole.proofs.TokenFlow.{origin_of, op_of, runs_at, starts_of, goes_of, starts_is, goes_is, few, up, came, not_client, not_origin}
 use Rattle.lw_whole.proofs.TokenHome.{back, completes_back, start_run, outs_some, none_pass}
 use Rattle.lw_whole.proofs.TokenBack.{Among, IsLetter, IsSend, among_either, counted_among, of_some_sender, sent_to, is_back, NoneBack, plain_not, of_steps}
 
