@@ -1,0 +1,9 @@
+pub mod Letters
+pub mod Logs
+pub mod Rings
+pub mod Tokens
+pub mod Sends
+pub mod Notes
+pub mod Lines
+pub mod Threads
+pub mod WholeRun
