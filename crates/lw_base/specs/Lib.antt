@@ -3,3 +3,4 @@ pub mod Memory
 pub mod Letters
 pub mod Totals
 pub mod TextLines
+pub mod Limits

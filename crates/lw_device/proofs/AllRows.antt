@@ -4,7 +4,7 @@ use Rattle.std.specs.Prelude.{IfOk, Ok, Err, Result}
 use Rattle.std.proofs.lemmas.List.{length-map, get_or_default}
 use Rattle.std.proofs.lemmas.List.Elements.{All-head, All-tail, All-weaker, All-map, All-from_get_or}
 use Rattle.lw_latch.specs.DeviceEnds.{DeviceLatch, FiresOnlyWhatItBegan, SeatEnd, Settles}
-use Rattle.lw_device.specs.declared.settling.DeviceEnd.{DeviceEnd}
+use Rattle.lw_base.specs.declared.ends.DeviceEnd.{DeviceEnd}
 use Rattle.lw_device.specs.Rows.{Row, latches, seat_of, no_seat, seats_of, gathered, gathered_into, AreAllRows, IsEndOf}
 use Rattle.lw_device.proofs.Pairing.{latch_of}
 use Rattle.lw_device.proofs.Joining.{joined, joined_sum, joined_latch, seat_gathered, length_gathered}

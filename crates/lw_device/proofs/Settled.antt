@@ -6,7 +6,7 @@ use native.Mathlib.Decide.{ℕ_discrete}
 use Rattle.lw_base.specs.Totals.{total}
 use Rattle.lw_latch.specs.DeviceWord.{held_count, times, IsWhole}
 use Rattle.lw_latch.specs.DeviceEnds.{FiresOnlyWhatItBegan, SeatEnd, HaveFired, Settles}
-use Rattle.lw_device.specs.declared.settling.DeviceEnd.{DeviceEnd}
+use Rattle.lw_base.specs.declared.ends.DeviceEnd.{DeviceEnd}
 use Rattle.lw_device.specs.Rows.{IsEndOf}
 use Rattle.lw_device.proofs.Joining.{joined, joined_sum, joined_began, begun_of}
 

@@ -3,7 +3,7 @@ use Rattle.std.specs.Prelude.{◌≡◌, ℕ, ◌+◌, ◌<◌, ◌≤◌, List,
 use Rattle.lw_base.specs.Totals.{total}
 use Rattle.lw_latch.specs.DeviceWord.{view_given, view_not_given, view_visiting, view_usable, view_found, view_begun, view_fired, view_tried, closing_word, IsWhole}
 use Rattle.lw_latch.specs.DeviceEnds.{DeviceLatch, SeatEnd, new_seat, both_ends, HaveFired}
-use Rattle.lw_device.specs.declared.settling.DeviceEnd.{DeviceEnd}
+use Rattle.lw_base.specs.declared.ends.DeviceEnd.{DeviceEnd}
 
 -- a row: its thread's number, and its seat at the latch of each device
 pub record Row : Type 0 where

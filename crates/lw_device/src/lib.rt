@@ -12,4 +12,5 @@ mod settling;
 pub use lw_latch::{Firing, Hold, Look};
 pub use making::devices;
 pub use row::{Already, DeviceRow, GetRefusal};
-pub use settling::{DeviceEnd, settle_devices};
+pub use lw_base::DeviceEnd;
+pub use settling::settle_devices;

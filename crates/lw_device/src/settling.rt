@@ -5,20 +5,9 @@ ghost use Rattle.lw_latch.specs.DeviceEnds.{FiresOnlyWhatItBegan, SeatEnd, Settl
 ghost use Rattle.lw_device.specs.Rows.{Row, latches, seat_of, seats_of, gathered, AreOfOne, AreAllRows, IsEndOf};
 
 use crate::row::DeviceRow;
-use lw_base::NoMemory;
+use lw_base::{DeviceEnd, NoMemory};
 use lw_latch::DeviceSeat;
 use std::alloc::Global;
-
-/// What came of a device.
-#[derive(Clone, Copy, PartialEq, Eq, Debug)]
-pub struct DeviceEnd {
-    /// How many channels were given.
-    pub given: u64,
-    /// The number of the row that began the unregistration.
-    pub thread: u32,
-    /// How often the callback was due.
-    pub callbacks: u32,
-}
 
 /// Settles the registry: what came of each device.
 ///

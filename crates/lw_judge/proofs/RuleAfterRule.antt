@@ -2,9 +2,9 @@
 use Rattle.std.proofs.Common.{◌≡◌, ◌↔◌, ℕ, ◌+◌, ◌<◌, ◌^◌, arith, drop, List, [], ◌∷◌, true, Option, Some, None, is_none, length, refl, sym, ap, ◌∙◌}
 use Rattle.std.proofs.lemmas.Bool.{and_parts, false≢true}
 use Rattle.lw_model.specs.declared.record.Record.{Record}
-use Rattle.lw_model.specs.declared.record.Round.{Round}
-use Rattle.lw_model.specs.declared.record.Scheduler.{Scheduler}
-use Rattle.lw_model.specs.declared.record.Scheduler.TheVariants.{Static}
+use Rattle.lw_base.specs.declared.moves.Round.{Round}
+use Rattle.lw_base.specs.declared.moves.Scheduler.{Scheduler}
+use Rattle.lw_base.specs.declared.moves.Scheduler.TheVariants.{Static}
 use Rattle.lw_model.specs.declared.record.Span.{Span}
 use Rattle.lw_model.specs.Printable.{has_rounds, is_empty}
 use Rattle.lw_model.specs.Lawful.{Lawful}

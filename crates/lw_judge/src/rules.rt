@@ -1,6 +1,6 @@
 //! The nine rules, one after another.
 ghost use Rattle.std.specs.Prelude.{◌≡◌, ◌↔◌, [], IfOk, drop};
-ghost use Rattle.lw_model.specs.declared.record.Scheduler.TheVariants.{Static};
+ghost use Rattle.lw_base.specs.declared.moves.Scheduler.TheVariants.{Static};
 ghost use Rattle.lw_model.specs.Lawful as lawful;
 ghost use Rattle.lw_model.specs.Threads.{thread_count};
 ghost use Rattle.lw_model.specs.Verdict.{first_failing, rules, verdict};

@@ -8,7 +8,7 @@ use Rattle.std.proofs.lemmas.List.{append-nil}
 use Rattle.std.proofs.lemmas.List.Folds.{list_all-append, list_any-append}
 use lib.Pointwise.{pointwise}
 use Rattle.lw_model.specs.declared.record.Record.{Record}
-use Rattle.lw_model.specs.declared.record.DeviceEnd.{DeviceEnd}
+use Rattle.lw_base.specs.declared.ends.DeviceEnd.{DeviceEnd}
 use Rattle.lw_model.specs.declared.step.Step.{Step}
 use Rattle.lw_model.specs.Threads.{threads, clients, is_client, is_on, thread_count}
 use Rattle.lw_model.specs.OwnOrder.{own_order_of, history}

@@ -3,7 +3,7 @@ use Rattle.std.specs.Prelude.{ℕ, ◌≡◌, ◌==◌, Bool, true, false, not, 
 use Rattle.std.specs.List.{list_all, list_any, flat_map, range_with_len}
 use Rattle.lw_model.specs.declared.record.Record.{Record}
 use Rattle.lw_model.specs.declared.script.Script.{Script}
-use Rattle.lw_model.specs.declared.record.DeviceEnd.{DeviceEnd}
+use Rattle.lw_base.specs.declared.ends.DeviceEnd.{DeviceEnd}
 use Rattle.lw_model.specs.declared.record.Answer.{Answer}
 use Rattle.lw_model.specs.declared.record.Answer.TheVariants as answer
 use Rattle.lw_model.specs.declared.step.Step.{Step}

@@ -6,7 +6,7 @@ use Rattle.std.proofs.lemmas.Bool.Decides.{nat_tests}
 use Rattle.std.proofs.lemmas.Option.{slice_get-get_or}
 use Rattle.lw_model.specs.declared.record.Record.{Record}
 use Rattle.lw_model.specs.declared.record.ThreadRecord.{ThreadRecord}
-use Rattle.lw_model.specs.declared.record.Hop.{Hop}
+use Rattle.lw_base.specs.declared.moves.Hop.{Hop}
 use Rattle.lw_model.specs.Threads.{of_thread, ran_of, threads, thread_count}
 use Rattle.lw_model.specs.Lines.{thread_line, hop_line, ran_line}
 use Rattle.lw_model.specs.Moves.{home_of, hops_of, hop_fits, is_above_last, number_fits}

@@ -7,14 +7,14 @@ use Rattle.std.proofs.lemmas.List.{length-append, length-map, append_assoc}
 use Rattle.std.proofs.lemmas.List.Sums.{sum_by-cons}
 use Rattle.lw_model.specs.declared.script.ClientOf.{ClientOf}
 use Rattle.lw_model.specs.declared.record.Record.{Record}
-use Rattle.lw_model.specs.declared.record.Scheduler.{Scheduler}
-use Rattle.lw_model.specs.declared.record.Scheduler.TheVariants.{Static, Dynamic}
+use Rattle.lw_base.specs.declared.moves.Scheduler.{Scheduler}
+use Rattle.lw_base.specs.declared.moves.Scheduler.TheVariants.{Static, Dynamic}
 use Rattle.lw_model.specs.declared.record.ThreadRecord.{ThreadRecord}
-use Rattle.lw_model.specs.declared.record.DeviceEnd.{DeviceEnd}
+use Rattle.lw_base.specs.declared.ends.DeviceEnd.{DeviceEnd}
 use Rattle.lw_model.specs.declared.record.Span.{Span}
-use Rattle.lw_model.specs.declared.record.Round.{Round}
-use Rattle.lw_model.specs.declared.record.Row.{Row}
-use Rattle.lw_model.specs.declared.record.Order.{Order}
+use Rattle.lw_base.specs.declared.moves.Round.{Round}
+use Rattle.lw_base.specs.declared.moves.Row.{Row}
+use Rattle.lw_base.specs.declared.moves.Order.{Order}
 use Rattle.lw_model.specs.Threads.{of_thread}
 use Rattle.lw_model.specs.Printable.{has_rounds, is_empty}
 use Rattle.lw_model.specs.Lines as number

@@ -5,9 +5,10 @@ use Rattle.std.proofs.lemmas.Bool.{and_parts, and_from, ltb-true, lt-ltb, le-ltb
 use Rattle.std.proofs.lemmas.Bool.Decides.{Decides-at, Decides-like, Decides-and}
 use Rattle.lw_model.specs.declared.record.Record.{Record}
 use Rattle.lw_model.specs.declared.record.Span.{Span}
-use Rattle.lw_model.specs.declared.record.Round.{Round}
+use Rattle.lw_base.specs.declared.moves.Round.{Round}
 use Rattle.lw_model.specs.OwnOrder.{with_past}
-use Rattle.lw_model.specs.Plan.{plan, standard}
+use Rattle.lw_model.specs.Plan.{plan}
+use Rattle.lw_base.specs.Limits.{standard}
 use Rattle.lw_model.specs.Lines.{round_line, round_size}
 use Rattle.lw_model.specs.Same.{is_same_order}
 use Rattle.lw_model.specs.Rounds.{RoundsHold, RoundsAndOrders, round_fits, row_fits, time_before}

@@ -3,7 +3,7 @@ use Rattle.std.specs.Prelude.{ℕ, ◌%◌, ◌≡◌, ◌==◌, nat_lt, Bool, t
 use Rattle.std.specs.List.{list_all, list_any}
 use Rattle.lw_base.specs.declared.message.Tag.{Tag}
 use Rattle.lw_model.specs.declared.record.Record.{Record}
-use Rattle.lw_model.specs.declared.record.Hop.{Hop}
+use Rattle.lw_base.specs.declared.moves.Hop.{Hop}
 use Rattle.lw_model.specs.Threads.{EachThread, of_thread, ran_of}
 use Rattle.lw_model.specs.OwnOrder.{with_past}
 

@@ -1,9 +1,9 @@
 -- The orders of a round: what is chosen for each row, from the loads and from the choices before it.
 use Rattle.std.specs.Prelude.{ℕ, ◌+◌, ◌-◌, ◌*◌, ◌/◌, ◌==◌, nat_lt, nat_le, Bool, cond, ◌&&◌, not, List, [], ◌∷◌, ◌++◌, filter, find, filter_map, zip, Option, Some, None, unwrap_or, sum_by}
 use Rattle.std.specs.List.{range_with_len, list_all}
-use Rattle.lw_model.specs.declared.record.Limits.{Limits}
-use Rattle.lw_model.specs.declared.record.Row.{Row}
-use Rattle.lw_model.specs.declared.record.Order.{Order}
+use Rattle.lw_base.specs.declared.moves.Limits.{Limits}
+use Rattle.lw_base.specs.declared.moves.Row.{Row}
+use Rattle.lw_base.specs.declared.moves.Order.{Order}
 
 -- the part of 100 in which the thread was busy
 abbrev pub load : Row → ℕ
@@ -54,7 +54,3 @@ order_of p = cond (p.0.reactor == p.1) None (Some (record { thread = p.0.thread;
 -- the orders of a list of rows
 abbrev pub plan : Limits → ℕ → List Row → List Order
 plan limits reactors rows = filter_map order_of (zip rows (choices limits reactors rows [] rows))
-
--- the limits that reactors and the judge go by
-abbrev pub standard : Limits
-standard = record { load = 20; core = 80; busy = 95 }

@@ -11,12 +11,12 @@ use Rattle.lw_base.specs.declared.message.What.TheVariants as what
 use Rattle.lw_base.specs.declared.message.Tag.{Tag}
 use Rattle.lw_base.specs.declared.message.Mark.{Mark}
 use Rattle.lw_model.specs.declared.record.Record.{Record}
-use Rattle.lw_model.specs.declared.record.Scheduler.{Scheduler}
-use Rattle.lw_model.specs.declared.record.Scheduler.TheVariants.{Static, Dynamic}
+use Rattle.lw_base.specs.declared.moves.Scheduler.{Scheduler}
+use Rattle.lw_base.specs.declared.moves.Scheduler.TheVariants.{Static, Dynamic}
 use Rattle.lw_model.specs.declared.record.ThreadRecord.{ThreadRecord}
 use Rattle.lw_model.specs.declared.record.RoleKind.{RoleKind}
 use Rattle.lw_model.specs.declared.record.RoleKind.TheVariants.{App, Client, Owner}
-use Rattle.lw_model.specs.declared.record.Hop.{Hop}
+use Rattle.lw_base.specs.declared.moves.Hop.{Hop}
 use Rattle.lw_model.specs.declared.record.Did.{Did}
 use Rattle.lw_model.specs.declared.record.Answer.{Answer}
 use Rattle.lw_model.specs.declared.record.Answer.TheVariants as answer
@@ -27,11 +27,11 @@ use Rattle.lw_model.specs.declared.record.Replied.TheVariants as replied
 use Rattle.lw_model.specs.declared.record.Seen.{Seen}
 use Rattle.lw_model.specs.declared.record.SeenBy.{SeenBy}
 use Rattle.lw_model.specs.declared.record.SeenBy.TheVariants as seen
-use Rattle.lw_model.specs.declared.record.DeviceEnd.{DeviceEnd}
+use Rattle.lw_base.specs.declared.ends.DeviceEnd.{DeviceEnd}
 use Rattle.lw_model.specs.declared.record.Span.{Span}
-use Rattle.lw_model.specs.declared.record.Round.{Round}
-use Rattle.lw_model.specs.declared.record.Row.{Row}
-use Rattle.lw_model.specs.declared.record.Order.{Order}
+use Rattle.lw_base.specs.declared.moves.Round.{Round}
+use Rattle.lw_base.specs.declared.moves.Row.{Row}
+use Rattle.lw_base.specs.declared.moves.Order.{Order}
 
 -- ---- words, lines and text
 

@@ -3,11 +3,12 @@ use Rattle.std.specs.Prelude.{ℕ, ◌+◌, ◌<◌, ◌≤◌, ◌≡◌, ◌==
 use Rattle.std.specs.List.{list_all, AllByRecursion}
 use Rattle.lw_model.specs.declared.record.Record.{Record}
 use Rattle.lw_model.specs.declared.record.Span.{Span}
-use Rattle.lw_model.specs.declared.record.Round.{Round}
-use Rattle.lw_model.specs.declared.record.Row.{Row}
+use Rattle.lw_base.specs.declared.moves.Round.{Round}
+use Rattle.lw_base.specs.declared.moves.Row.{Row}
 use Rattle.lw_model.specs.Threads.{thread_count}
 use Rattle.lw_model.specs.OwnOrder.{with_past}
-use Rattle.lw_model.specs.Plan.{plan, standard}
+use Rattle.lw_model.specs.Plan.{plan}
+use Rattle.lw_base.specs.Limits.{standard}
 
 -- the time that a round has to be a period past: that of the round before, or FIRST
 abbrev pub time_before : ℕ → List Round → ℕ

@@ -10,7 +10,7 @@ use Rattle.lw_model.specs.declared.record.Reply.{Reply}
 use Rattle.lw_model.specs.declared.record.Seen.{Seen}
 use Rattle.lw_model.specs.declared.record.SeenBy.{SeenBy}
 use Rattle.lw_model.specs.declared.record.SeenBy.TheVariants as by
-use Rattle.lw_model.specs.declared.record.Order.{Order}
+use Rattle.lw_base.specs.declared.moves.Order.{Order}
 
 -- two optional values that are both there and the same
 abbrev pub both : {X : Type 0} → (X → X → Bool) → Option X → Option X → Bool

@@ -6,14 +6,15 @@ use lib.Pointwise.{pointwise}
 use Rattle.lw_base.specs.declared.message.Tag.{Tag}
 use Rattle.lw_model.specs.declared.record.Record.{Record}
 use Rattle.lw_model.specs.declared.record.Span.{Span}
-use Rattle.lw_model.specs.declared.record.Round.{Round}
+use Rattle.lw_base.specs.declared.moves.Round.{Round}
 use Rattle.lw_model.specs.Threads.{threads, clients, images, is_on, ran_of, did_of}
 use Rattle.lw_model.specs.declared.step.Step.{Step}
 use Rattle.lw_model.specs.declared.step.Step.TheVariants as step
 use Rattle.lw_model.specs.OwnOrder.{own_order_of, with_past, history}
 use Rattle.lw_model.specs.Holding.{says}
 use Rattle.lw_model.specs.Sent.{sent, run_of, tokens, must_run}
-use Rattle.lw_model.specs.Plan.{plan, standard}
+use Rattle.lw_model.specs.Plan.{plan}
+use Rattle.lw_base.specs.Limits.{standard}
 use Rattle.lw_model.specs.Lines.{thread_line, hop_line, ran_line, did_line, called_line, reply_line, seen_line, device_line, clock_line, round_line, round_size, home_line}
 use Rattle.lw_model.specs.Same.{both, is_same_what, is_same_reply, is_same_seen, is_same_order, is_same_pair, is_same_numbers}
 use Rattle.lw_model.specs.Moves.{home_of, hops_of, hop_fits, number_fits}

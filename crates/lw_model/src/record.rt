@@ -1,11 +1,9 @@
 //! The record of a run: what each thread did, what each device came to, the rounds, and the pool at the end.
 ghost use Rattle.std.specs.Prelude.{◌≡◌, true};
 ghost use Rattle.lw_model.specs.Printable.{is_printable};
-ghost use Rattle.lw_model.specs.Plan.{standard};
 
-use crate::items::Items;
 use crate::script::Script;
-use lw_base::{Mark, Tag, Tick};
+use lw_base::{DeviceEnd, Home, Hop, Items, Mark, Round, Scheduler, Tag, Tick};
 
 /// What a run leaves behind, in full: a report is the text of one.
 ///
@@ -23,15 +21,6 @@ pub struct Record {
     pub rounds: Items<Round>,
     pub home: Home,
     pub ghost printable: { is_printable script scheduler reactors period threads devices span rounds ≡ true },
-}
-
-/// Whether light threads may move between reactors.
-#[derive(Copy, Clone, Drop)]
-pub enum Scheduler {
-    /// Each thread stays on its home reactor, and there are no rounds.
-    Static,
-    /// Rounds measure the load and order threads to move.
-    Dynamic,
 }
 
 /// What one thread did. Within each list the order is that in which things happened.
@@ -60,13 +49,6 @@ pub enum RoleKind {
     App,
     Client,
     Owner,
-}
-
-/// A move of a thread to a reactor, with the number of the round that ordered it.
-#[derive(Copy, Clone, Drop)]
-pub struct Hop {
-    pub round: u32,
-    pub reactor: u32,
 }
 
 /// What one op was answered, when the thread had run `at` messages. For the app `op` is a device's number; a client's
@@ -148,73 +130,9 @@ pub enum SeenBy {
     Cast(Items<u32>),
 }
 
-/// What a device came to: the channels given, the thread that unregistered it, and the callbacks made.
-#[derive(Copy, Clone, Drop)]
-pub struct DeviceEnd {
-    pub given: u64,
-    pub thread: u32,
-    pub callbacks: u32,
-}
-
 /// Reactor 0's first and last first readings of a turn.
 #[derive(Copy, Clone, Drop)]
 pub struct Span {
     pub first: u64,
     pub last: u64,
-}
-
-/// A round of the dynamic scheduler: its number from 1, its time, what it measured and what it ordered.
-#[derive(Drop)]
-pub struct Round {
-    pub number: u32,
-    pub time: u64,
-    pub rows: Items<Row>,
-    pub orders: Items<Order>,
-}
-
-/// A thread in a round: the reactor it stood on, and its busy and idle ticks since the round before.
-#[derive(Copy, Clone, Drop)]
-pub struct Row {
-    pub thread: u32,
-    pub reactor: u32,
-    pub busy: u64,
-    pub idle: u64,
-}
-
-/// The numbers of the plan of a round, in parts of 100.
-#[derive(Copy, Clone, Drop)]
-pub struct Limits {
-    /// A thread with less load than this goes to reactor 0.
-    pub load: u32,
-    /// A reactor has room for a thread where the planned load and the thread's are together at most this.
-    pub core: u32,
-    /// A reactor with more load than this gives threads away.
-    pub busy: u32,
-}
-
-impl Limits {
-    /// The limits that every reactor and the judge go by: 20, 80 and 95.
-    pub fn standard() -> Self
-        ensures { result ≡ standard }
-    {
-        Limits {
-            load: 20,
-            core: 80,
-            busy: 95,
-        }
-    }
-}
-
-/// The order of a round that a thread moves to a reactor.
-#[derive(Copy, Clone, Drop)]
-pub struct Order {
-    pub thread: u32,
-    pub to: u32,
-}
-
-/// The buffers of each class that stood in the pool at the end.
-#[derive(Copy, Clone, Drop)]
-pub struct Home {
-    pub small: u32,
-    pub large: u32,
 }

@@ -15,4 +15,5 @@ pub use buffer::Buffer;
 pub use class::Class;
 pub use making::pool;
 pub use pass::{Empty, PoolPass};
-pub use settling::{Home, settle_pool};
+pub use lw_base::Home;
+pub use settling::settle_pool;

@@ -6,16 +6,10 @@ ghost use Rattle.lw_pool.specs.PoolEnds.{AreAllPasses, IsEven, IsHome};
 
 use crate::pass::{PoolPass, Shared};
 use crate::queue::{Counting, Dealing, Kind, Pass, Queue};
+use lw_base::Home;
 use std::alloc::Global;
 use std::marker::Model;
 use std::sync::{Arc, Wait};
-
-/// How many buffers of each class are in a pool.
-#[derive(Clone, Copy, PartialEq, Eq, Debug)]
-pub struct Home {
-    pub small: u32,
-    pub large: u32,
-}
 
 /// A pass that others were joined to.
 #[derive(Drop)]

@@ -1,6 +1,6 @@
 -- What some lists of words ask for, worked out by hand.
 use Rattle.std.proofs.Common.{◌≡◌, ℕ, List, [], ◌∷◌, codes, Option, Some, None, refl}
-use Rattle.lw_model.specs.declared.record.Scheduler.TheVariants.{Static, Dynamic}
+use Rattle.lw_base.specs.declared.moves.Scheduler.TheVariants.{Static, Dynamic}
 use Rattle.lw_target.specs.declared.options.Options.{Options}
 use Rattle.lw_program.specs.declared.words.CommandLine.{CommandLine}
 use Rattle.lw_program.specs.declared.words.CommandLine.TheVariants.{Run, Check}

@@ -4,8 +4,8 @@ use Rattle.std.specs.List.{list_all, list_any}
 use Rattle.std.specs.Option.{option_map_or}
 use Rattle.std.specs.Str.Parse.{digits_value}
 use Rattle.clap.specs.Lexer.{is_digit, long_of, strip_byte}
-use Rattle.lw_model.specs.declared.record.Scheduler.{Scheduler}
-use Rattle.lw_model.specs.declared.record.Scheduler.TheVariants.{Static, Dynamic}
+use Rattle.lw_base.specs.declared.moves.Scheduler.{Scheduler}
+use Rattle.lw_base.specs.declared.moves.Scheduler.TheVariants.{Static, Dynamic}
 use Rattle.lw_model.specs.ScriptRules.{is_within}
 use Rattle.lw_target.specs.declared.options.Options.{Options}
 use Rattle.lw_program.specs.declared.words.CommandLine.{CommandLine}

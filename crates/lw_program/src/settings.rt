@@ -1,7 +1,7 @@
 //! What the options say, by the values that clap found for them.
 ghost use Rattle.std.specs.Prelude.{◌≡◌, ◌≤◌, true, length, map, IfSome};
 ghost use Rattle.lw_model.specs.ScriptRules.{is_within};
-ghost use Rattle.lw_model.specs.declared.record.Scheduler.TheVariants.{Static};
+ghost use Rattle.lw_base.specs.declared.moves.Scheduler.TheVariants.{Static};
 ghost use Rattle.std.specs.List.{list_all};
 ghost use Rattle.clap.specs.Lexer.{is_digit};
 ghost use Rattle.lw_program.specs.Words.{options_of, is_numeral, number_in, scheduler_in, setting};

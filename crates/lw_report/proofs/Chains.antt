@@ -2,7 +2,7 @@
 use Rattle.std.proofs.Common.{◌≡◌, ℕ, List, Result, Ok, Err, Some, is_none, if◌then◌else◌, ap, ◌∙◌}
 use Rattle.lw_model.specs.declared.script.ImageOf.{ImageOf}
 use Rattle.lw_model.specs.declared.script.ClientOf.{ClientOf}
-use Rattle.lw_model.specs.declared.record.Home.{Home}
+use Rattle.lw_base.specs.declared.ends.Home.{Home}
 use Rattle.lw_model.specs.declared.refusal.ScriptRefusal.{ScriptRefusal}
 use Rattle.lw_model.specs.ScriptRules.{rule_broken}
 use Rattle.lw_report_lines.specs.declared.single.NumberLine.TheVariants.{Images, Clients}
@@ -12,7 +12,7 @@ use Rattle.lw_base.specs.declared.message.Tag.{Tag}
 use Rattle.lw_model.specs.declared.record.ThreadRecord.{ThreadRecord}
 use Rattle.lw_model.specs.declared.record.RoleKind.{RoleKind}
 use Rattle.lw_model.specs.declared.record.RoleKind.TheVariants.{Client}
-use Rattle.lw_model.specs.declared.record.Hop.{Hop}
+use Rattle.lw_base.specs.declared.moves.Hop.{Hop}
 use Rattle.lw_model.specs.declared.record.Did.{Did}
 use Rattle.lw_model.specs.declared.record.Called.{Called}
 use Rattle.lw_model.specs.declared.record.Reply.{Reply}

@@ -2,9 +2,9 @@
 use Rattle.std.proofs.Common.{◌≡◌, Bool, true, List, Option, sym, ap, subst, ◌∙◌}
 use Rattle.std.proofs.Math.Bool.{Bool-set}
 use Rattle.lw_model.specs.declared.record.Record.{Record}
-use Rattle.lw_model.specs.declared.record.Scheduler.{Scheduler}
+use Rattle.lw_base.specs.declared.moves.Scheduler.{Scheduler}
 use Rattle.lw_model.specs.declared.record.Span.{Span}
-use Rattle.lw_model.specs.declared.record.Round.{Round}
+use Rattle.lw_base.specs.declared.moves.Round.{Round}
 use Rattle.lw_model.specs.Printable.{is_printable}
 use Rattle.lw_report.specs.declared.contents.Contents.{Contents}
 use Rattle.lw_report.specs.Parsed.{IsStatic, contents_of}

@@ -7,7 +7,7 @@ use Rattle.lw_model.specs.declared.script.Script.{Script}
 use Rattle.lw_model.specs.declared.record.ThreadRecord.{ThreadRecord}
 use Rattle.lw_model.specs.declared.record.RoleKind.{RoleKind}
 use Rattle.lw_model.specs.declared.record.Called.{Called}
-use Rattle.lw_model.specs.declared.record.DeviceEnd.{DeviceEnd}
+use Rattle.lw_base.specs.declared.ends.DeviceEnd.{DeviceEnd}
 use Rattle.lw_model.specs.Printable.{has_a_line, has_role, may_reply, is_printable_thread}
 use Rattle.lw_model.specs.ReportText.{line, hop_line, ran_line, did_line, called_line, reply_line, seen_line, role_word, thread_line, thread_lines as lines_of_thread, device_line}
 use Rattle.lw_report_lines.specs.LineKinds.{hop_in, ran_in, did_in, called_in, reply_in, seen_in, thread_in}

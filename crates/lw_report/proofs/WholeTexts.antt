@@ -6,12 +6,12 @@ use Rattle.lw_model.specs.declared.script.Script.{Script}
 use Rattle.lw_model.specs.declared.script.ImageOf.{ImageOf}
 use Rattle.lw_model.specs.declared.script.ClientOf.{ClientOf}
 use Rattle.lw_model.specs.declared.record.Record.{Record}
-use Rattle.lw_model.specs.declared.record.Scheduler.{Scheduler}
-use Rattle.lw_model.specs.declared.record.Scheduler.TheVariants.{Static}
+use Rattle.lw_base.specs.declared.moves.Scheduler.{Scheduler}
+use Rattle.lw_base.specs.declared.moves.Scheduler.TheVariants.{Static}
 use Rattle.lw_model.specs.declared.record.ThreadRecord.{ThreadRecord}
-use Rattle.lw_model.specs.declared.record.DeviceEnd.{DeviceEnd}
+use Rattle.lw_base.specs.declared.ends.DeviceEnd.{DeviceEnd}
 use Rattle.lw_model.specs.declared.record.Span.{Span}
-use Rattle.lw_model.specs.declared.record.Round.{Round}
+use Rattle.lw_base.specs.declared.moves.Round.{Round}
 use Rattle.lw_model.specs.ScriptRules.{is_name, is_pattern, rule_broken}
 use Rattle.lw_model.specs.ReportText.{line, count_of, scheduler_word, image_line, client_lines, thread_lines, device_line, clock_lines, round_lines, text_of_lines, lines_of, text_of}
 use Rattle.lw_report.specs.declared.contents.Contents.{Contents}

@@ -1,7 +1,7 @@
 -- What the reading of a report answers.
 use Rattle.std.specs.Prelude.{List, ◌≡◌, ℕ, [], None, Result, Ok, Err}
 use Rattle.lw_model.specs.declared.record.Record.{Record}
-use Rattle.lw_model.specs.declared.record.Scheduler.TheVariants.{Static}
+use Rattle.lw_base.specs.declared.moves.Scheduler.TheVariants.{Static}
 use Rattle.lw_model.specs.ReportText.{text_of}
 use Rattle.lw_report.specs.declared.contents.Contents.{Contents}
 use Rattle.lw_report.specs.Ranges.{InRange}

@@ -1,7 +1,7 @@
 //! A record from its text.
 ghost use Rattle.std.specs.Prelude.{◌≡◌, IfOk, None, [], true};
 ghost use Rattle.lw_model.specs.Printable.{is_printable};
-ghost use Rattle.lw_model.specs.declared.record.Scheduler.TheVariants.{Static};
+ghost use Rattle.lw_base.specs.declared.moves.Scheduler.TheVariants.{Static};
 ghost use Rattle.lw_report.specs.Report.{reading};
 ghost use Rattle.lw_report.specs.Parsed.{IsOfText, IsStatic, contents_of, Tells};
 

@@ -5,7 +5,7 @@ use Rattle.lw_base.specs.declared.message.Tag.{Tag}
 use Rattle.lw_base.specs.declared.message.Mark.{Mark}
 use Rattle.lw_base.specs.declared.message.What.{What}
 use Rattle.lw_base.specs.declared.message.What.TheVariants as what
-use Rattle.lw_model.specs.declared.record.Hop.{Hop}
+use Rattle.lw_base.specs.declared.moves.Hop.{Hop}
 use Rattle.lw_model.specs.declared.record.Did.{Did}
 use Rattle.lw_model.specs.declared.record.Answer.{Answer}
 use Rattle.lw_model.specs.declared.record.Answer.TheVariants as answer
@@ -14,8 +14,8 @@ use Rattle.lw_model.specs.declared.record.Seen.{Seen}
 use Rattle.lw_model.specs.declared.record.SeenBy.{SeenBy}
 use Rattle.lw_model.specs.declared.record.SeenBy.TheVariants as by
 use Rattle.lw_model.specs.declared.record.RoleKind.{RoleKind}
-use Rattle.lw_model.specs.declared.record.DeviceEnd.{DeviceEnd}
-use Rattle.lw_model.specs.declared.record.Home.{Home}
+use Rattle.lw_base.specs.declared.ends.DeviceEnd.{DeviceEnd}
+use Rattle.lw_base.specs.declared.ends.Home.{Home}
 use Rattle.lw_model.specs.ScriptRules.{is_within}
 use Rattle.lw_model.specs.ReportText.{line, hop_line, what_words, ran_line, answer_words, did_line, called_line, mark_word, result_words, seen_line, role_word, device_line}
 use Rattle.lw_report_lines.specs.LineParts.{after, number, spaced, is_end, u32_max, u64_max}

@@ -6,15 +6,15 @@ use Rattle.lw_base.specs.declared.message.Tag.{Tag}
 use Rattle.lw_base.specs.declared.message.Mark.{Mark}
 use Rattle.lw_base.specs.declared.message.What.{What}
 use Rattle.lw_base.specs.declared.message.What.TheVariants as what
-use Rattle.lw_model.specs.declared.record.Hop.{Hop}
+use Rattle.lw_base.specs.declared.moves.Hop.{Hop}
 use Rattle.lw_model.specs.declared.record.Did.{Did}
 use Rattle.lw_model.specs.declared.record.Answer.{Answer}
 use Rattle.lw_model.specs.declared.record.Answer.TheVariants as answer
 use Rattle.lw_model.specs.declared.record.Called.{Called}
 use Rattle.lw_model.specs.declared.record.RoleKind.{RoleKind}
 use Rattle.lw_model.specs.declared.record.RoleKind.TheVariants.{App, Client, Owner}
-use Rattle.lw_model.specs.declared.record.DeviceEnd.{DeviceEnd}
-use Rattle.lw_model.specs.declared.record.Home.{Home}
+use Rattle.lw_base.specs.declared.ends.DeviceEnd.{DeviceEnd}
+use Rattle.lw_base.specs.declared.ends.Home.{Home}
 use Rattle.lw_model.specs.ScriptRules.{is_within}
 use Rattle.lw_model.specs.Printable.{has_a_line}
 use Rattle.lw_model.specs.ReportText.{line, hop_line, what_words, ran_line, answer_words, did_line, called_line, role_word, device_line}

@@ -21,13 +21,13 @@ use Rattle.lw_model.specs.declared.record.Replied.TheVariants as replied
 use Rattle.lw_model.specs.declared.record.Seen.{Seen}
 use Rattle.lw_model.specs.declared.record.SeenBy.{SeenBy}
 use Rattle.lw_model.specs.declared.record.SeenBy.TheVariants as by
-use Rattle.lw_model.specs.declared.record.Hop.{Hop}
+use Rattle.lw_base.specs.declared.moves.Hop.{Hop}
 use Rattle.lw_model.specs.declared.record.Did.{Did}
 use Rattle.lw_model.specs.declared.record.Answer.{Answer}
 use Rattle.lw_model.specs.declared.record.Answer.TheVariants as answer
 use Rattle.lw_model.specs.declared.record.Called.{Called}
-use Rattle.lw_model.specs.declared.record.DeviceEnd.{DeviceEnd}
-use Rattle.lw_model.specs.declared.record.Home.{Home}
+use Rattle.lw_base.specs.declared.ends.DeviceEnd.{DeviceEnd}
+use Rattle.lw_base.specs.declared.ends.Home.{Home}
 use Rattle.lw_report_lines.specs.declared.script_lines.ClientHead.{ClientHead}
 use Rattle.lw_report_lines.specs.LineParts.{after, number, spaced, word, is_end, u32_max, u64_max}
 

@@ -1,6 +1,6 @@
 -- The lines that stand once in a report, by what they are.
 use Rattle.std.specs.Prelude.{ℕ, List, codes, if◌then◌else◌, is_some, Option, Some, None}
-use Rattle.lw_model.specs.declared.record.Home.{Home}
+use Rattle.lw_base.specs.declared.ends.Home.{Home}
 use Rattle.lw_report_lines.specs.declared.single.FixedLine.{FixedLine}
 use Rattle.lw_report_lines.specs.declared.single.FixedLine.TheVariants.{Title, StaticScheduler, End}
 use Rattle.lw_report_lines.specs.declared.single.NumberLine.{NumberLine}

@@ -15,7 +15,7 @@ use Rattle.lw_model.specs.declared.record.Reply.{Reply}
 use Rattle.lw_model.specs.declared.record.RoleKind.TheVariants as role
 use Rattle.lw_model.specs.declared.record.Did.{Did}
 use Rattle.lw_model.specs.declared.record.Answer.TheVariants.{Began}
-use Rattle.lw_model.specs.declared.record.DeviceEnd.{DeviceEnd}
+use Rattle.lw_base.specs.declared.ends.DeviceEnd.{DeviceEnd}
 use Rattle.lw_model.specs.Threads.{ops_of, is_on}
 use Rattle.lw_model.specs.Moves.{number_fits}
 use Rattle.lw_model.specs.Holding.{says, always, is_closed, gains, loses, references, is_putself, ordinal_given}

@@ -1,6 +1,6 @@
 -- The options that a run serves.
 use Rattle.std.specs.Prelude.{◌≡◌, true}
-use Rattle.lw_model.specs.declared.record.Scheduler.TheVariants.{Static}
+use Rattle.lw_base.specs.declared.moves.Scheduler.TheVariants.{Static}
 use Rattle.lw_model.specs.ScriptRules.{is_within}
 use Rattle.lw_target.specs.declared.options.Options.{Options}
 

@@ -6,7 +6,7 @@ use Rattle.lw_base.specs.declared.message.What.{What}
 use Rattle.lw_base.specs.declared.message.What.TheVariants as what
 use Rattle.lw_model.specs.declared.script.Script.{Script}
 use Rattle.lw_model.specs.declared.record.ThreadRecord.{ThreadRecord}
-use Rattle.lw_model.specs.declared.record.DeviceEnd.{DeviceEnd}
+use Rattle.lw_base.specs.declared.ends.DeviceEnd.{DeviceEnd}
 use Rattle.lw_model.specs.declared.record.Replied.{Replied}
 use Rattle.lw_model.specs.declared.record.Reply.{Reply}
 use Rattle.lw_model.specs.declared.record.Answer.TheVariants.{Began}

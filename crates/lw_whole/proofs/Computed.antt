@@ -6,7 +6,7 @@ use Rattle.std.proofs.lemmas.Bool.{cases_eq, eqb-true, and_parts, false≢true, 
 use Rattle.lw_base.specs.Letters.{sent_by, Names}
 use Rattle.lw_base.specs.Totals.{total}
 use Rattle.lw_model.specs.declared.script.Script.{Script}
-use Rattle.lw_model.specs.declared.record.DeviceEnd.{DeviceEnd}
+use Rattle.lw_base.specs.declared.ends.DeviceEnd.{DeviceEnd}
 use Rattle.lw_model.specs.Threads.{is_on}
 use Rattle.lw_model.specs.Holding.{says, ordinal_given}
 use Rattle.lw_model.specs.Devices.{is_refusal}

@@ -2,8 +2,8 @@
 use Rattle.std.specs.Prelude.{ℕ, ◌%◌, ◌≡◌, ◌==◌, Bool, true, ◌&&◌, List, [], map}
 use Rattle.std.specs.List.{list_all, list_any, AllByRecursion, enumerate_from}
 use Rattle.lw_model.specs.declared.record.Record.{Record}
-use Rattle.lw_model.specs.declared.record.Order.{Order}
-use Rattle.lw_model.specs.declared.record.Hop.{Hop}
+use Rattle.lw_base.specs.declared.moves.Order.{Order}
+use Rattle.lw_base.specs.declared.moves.Hop.{Hop}
 use Rattle.lw_model.specs.Threads.{images}
 use Rattle.lw_model.specs.OwnOrder.{with_past}
 use Rattle.lw_model.specs.Moves.{is_above_last}

@@ -5,7 +5,7 @@ use mathlib.Core.Logic.{dite}
 use native.Mathlib.Decide.{ℕ_discrete}
 use Rattle.std.specs.Vec.Iter.{into_iter_items}
 use Rattle.lw_latch.specs.DeviceEnds.{SeatEnd}
-use Rattle.lw_device.specs.declared.settling.DeviceEnd.{DeviceEnd}
+use Rattle.lw_base.specs.declared.ends.DeviceEnd.{DeviceEnd}
 use Rattle.lw_device.specs.Rows.{IsEndOf, seat_of, no_seat}
 use Rattle.lw_device.proofs.Pairing.{next_left}
 use Rattle.lw_device.proofs.settling.all_ends.Goals as goal

@@ -2,7 +2,7 @@ use Rattle.std.proofs.Common.{◌≡◌, ◌<◌, ℕ, length, All, ap, subst, s
 use Rattle.std.specs.Prelude.{slice_index_or}
 use Rattle.std.proofs.lemmas.Result.{IfOk-weaker}
 use Rattle.lw_latch.specs.DeviceEnds.{SeatEnd}
-use Rattle.lw_device.specs.declared.settling.DeviceEnd.{DeviceEnd}
+use Rattle.lw_base.specs.declared.ends.DeviceEnd.{DeviceEnd}
 use Rattle.lw_device.specs.Rows.{Row, IsEndOf, seat_of}
 use Rattle.lw_device.proofs.AllRows.{stands_for_all, each_settles, as_many, ends_fire, if_both}
 use Rattle.lw_device.proofs.settling.settle_devices.Goals as goal
