@@ -1,7 +1,7 @@
 //! Standard input, standard output and the system's clock as the outside of a run.
 //!
 //! This is the trusted edge: what these hold is told to no contract.
-ghost use Rattle.std.specs.Prelude.{◌≡◌};
+ghost use Rattle.std.specs.Prelude.{◌≡◌, false};
 
 use lw_base::{Clock, Failed, Sink, Source, Tick};
 use std::io::{Read, Write};
@@ -11,13 +11,20 @@ use std::time::Instant;
 #[derive(Drop)]
 pub struct StdSource<R> {
     from: R,
+    ended: bool,
     faults: u64,
 }
 
 impl<R: Read> StdSource<R> {
     /// With no failure yet.
-    pub fn new(from: R) -> Self {
-        StdSource { from, faults: 0 }
+    pub fn new(from: R) -> Self
+        ensures { result.ended ≡ false }
+    {
+        StdSource {
+            from,
+            ended: false,
+            faults: 0,
+        }
     }
 }
 
@@ -26,11 +33,16 @@ impl<R: Read> Source for StdSource<R> {
 
     ghost left = { λ _. None };
 
+    ghost ended = { λ s. s.ended };
+
     ghost faults = { λ s. s.faults };
 
     fn read(&mut self, into: &mut [u8]) -> Result<usize, Failed> {
         match self.from.read(into) {
-            Ok(count) => Ok(count),
+            Ok(count) => {
+                self.ended = count == 0;
+                Ok(count)
+            }
             Err(_) => {
                 self.faults = self.faults.saturating_add(1);
                 Err(Failed)

@@ -1,5 +1,5 @@
 //! The outside in memory: for tests, and for callers that have the whole text.
-ghost use Rattle.std.specs.Prelude.{◌≡◌, ◌+◌, ◌-◌, ◌<◌, ◌≤◌, [], ◌∷◌, ◌++◌, length, take, drop, min, Ok, Err, Some, IfOk, OnOk, OnErr, IfSome, IsErr, Contains, vec_len, vec_capacity};
+ghost use Rattle.std.specs.Prelude.{◌≡◌, ◌+◌, ◌-◌, ◌<◌, ◌≤◌, ◌==◌, false, [], ◌∷◌, ◌++◌, length, take, drop, min, Ok, Err, Some, IfOk, OnOk, OnErr, IfSome, IsErr, Contains, vec_len, vec_capacity};
 ghost use Rattle.lw_base.specs.Outside.{Rose, Continues, HasGiven, HasTaken};
 ghost use Rattle.lw_base.specs.Memory.{counted, fails_at, list_readings, reading_at, unless_it_fails, unless_nothing};
 
@@ -16,6 +16,8 @@ pub struct MemSource {
     pub bytes: Vec<u8>,
     /// How many of the bytes were read.
     pub read: usize,
+    /// Whether it has answered its end.
+    pub ended: bool,
     pub piece: usize,
     pub fails: Vec<u64>,
     pub calls: u64,
@@ -32,10 +34,12 @@ impl MemSource {
         ensures piece { result.piece ≡ piece }
         ensures fails { result.fails ≡ fails }
         ensures fresh { (result.calls ≡ 0) × (result.faults ≡ 0) × (result.read ≡ 0) }
+        ensures begins { result.ended ≡ false }
     {
         MemSource {
             bytes,
             read: 0,
+            ended: false,
             piece,
             fails,
             calls: 0,
@@ -49,13 +53,17 @@ impl Source for MemSource {
 
     ghost left = { λ s. Some (drop s.read s.bytes.items) };
 
+    ghost ended = { λ s. s.ended };
+
     ghost faults = { λ s. s.faults };
 
     fn read(&mut self, into: &mut [u8]) -> Result<usize, Failed>
-        requires { 0 < length into.old }
+        requires room { 0 < length into.old }
+        requires goes_on { self.old.ended ≡ false }
         ensures answer { result ≡ unless_it_fails self.old.fails.items self.old.calls
             (min (min (length self.old.bytes.items - self.old.read) self.old.piece) (length into.old)) }
         ensures count { IfOk result (λ n. n ≤ length into.new) }
+        ensures ended { IfOk result (λ n. self.new.ended ≡ (n == 0)) }
         ensures next { IfOk result (λ n. HasGiven (Some (drop self.old.read self.old.bytes.items)) (take n into.new)
             (Some (drop self.new.read self.new.bytes.items))) }
         ensures end { IfOk result (λ n. n ≡ 0 → drop self.old.read self.old.bytes.items ≡ []) }
@@ -63,6 +71,7 @@ impl Source for MemSource {
         ensures steady { self.old.faults ≤ self.new.faults }
         ensures failed { OnErr result (Rose self.old.faults self.new.faults
             × (drop self.new.read self.new.bytes.items ≡ drop self.old.read self.old.bytes.items)) }
+        ensures still { OnErr result (self.new.ended ≡ self.old.ended) }
         ensures moved { IfOk result (λ n. self.new.read ≡ self.old.read + n) }
         ensures unmoved { OnErr result ((self.new.read ≡ self.old.read) × (into.new ≡ into.old)) }
         ensures fault { OnErr result (self.new.faults ≡ counted self.old.faults) }
@@ -75,6 +84,7 @@ impl Source for MemSource {
         }
         let count = copy_front(&self.bytes[self.read..], into, self.piece);
         self.read += count;
+        self.ended = count == 0;
         Ok(count)
     }
 }

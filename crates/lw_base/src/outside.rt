@@ -1,30 +1,36 @@
 //! The outside of a run: where bytes come from and go to, clocks, and a gate that a test can hold.
-ghost use Rattle.std.specs.Prelude.{◌≡◌, ◌<◌, ◌≤◌, [], ◌∷◌, length, take, IfOk, OnOk, OnErr, IfSome};
+ghost use Rattle.std.specs.Prelude.{◌≡◌, ◌<◌, ◌≤◌, ◌==◌, false, [], ◌∷◌, length, take, IfOk, OnOk, OnErr, IfSome};
 ghost use Rattle.lw_base.specs.Outside.{Rose, Continues, HasGiven, HasTaken};
 
 use crate::names::{Failed, Tick};
 
 /// Where bytes come from.
 pub trait Source {
-    ghost use Rattle.std.specs.Prelude.{ℕ, List, Option};
+    ghost use Rattle.std.specs.Prelude.{ℕ, Bool, List, Option};
 
     // What is left to read, where the source tells it.
     ghost left: { Self → Option (List ℕ) };
 
+    // Whether it has answered its end. Nobody reads on behind that.
+    ghost ended: { Self → Bool };
+
     // How often it has failed. The count stands still at the greatest u64.
     ghost faults: { Self → ℕ };
 
-    /// Reads the next bytes into the front of `into`, and answers how many: 0 exactly at the end.
+    /// Reads the next bytes into the front of `into`, and answers how many: 0 exactly at the end, which is answered once.
     ///
     /// A call that failed has read nothing, and only such a call is counted as a fault.
     fn read(&mut self, into: &mut [u8]) -> Result<usize, Failed>
-        requires { 0 < length into.old }
+        requires room { 0 < length into.old }
+        requires goes_on { ended self.old ≡ false }
         ensures count { IfOk result (λ n. n ≤ length into.new) }
+        ensures ended { IfOk result (λ n. ended self.new ≡ (n == 0)) }
         ensures next { IfOk result (λ n. HasGiven (left self.old) (take n into.new) (left self.new)) }
         ensures end { IfOk result (λ n. n ≡ 0 → IfSome (left self.old) (λ rest. rest ≡ [])) }
         ensures sound { OnOk result (faults self.new ≡ faults self.old) }
         ensures steady { faults self.old ≤ faults self.new }
-        ensures failed { OnErr result (Rose (faults self.old) (faults self.new) × (left self.new ≡ left self.old)) };
+        ensures failed { OnErr result (Rose (faults self.old) (faults self.new) × (left self.new ≡ left self.old)) }
+        ensures still { OnErr result (ended self.new ≡ ended self.old) };
 }
 
 /// Where bytes go.

@@ -1,5 +1,5 @@
 //! What a command does: the bytes that it takes are read whole, it answers them, and the text of its answer is written.
-ghost use Rattle.std.specs.Prelude.{◌≡◌, ◌<◌, ◌^◌, None, Some, vec_len, IfOk, IfSome, OnOk};
+ghost use Rattle.std.specs.Prelude.{◌≡◌, ◌<◌, ◌^◌, false, None, Some, vec_len, IfOk, IfSome, OnOk};
 ghost use Rattle.lw_program.specs.Outside.{seen};
 ghost use Rattle.lw_program.specs.Commands.{EndsCommand, EndsText, Gets};
 ghost use Rattle.lw_program.specs.declared.reading.ReadStop.TheVariants as stop;
@@ -82,7 +82,8 @@ pub fn carry_out<R, I: Source, O: Sink, C: Clock + Drop, G: Gate, M: Command>(
 ) -> Outcome<M::Value>
 where
     M::Value: Drop,
-    requires { vec_len clocks ≡ 16 }
+    requires clocks { vec_len clocks ≡ 16 }
+    requires goes_on { I.ended input.old ≡ false }
     ensures { EndsCommand (M.is command) (seen I.left I.faults O.holds O.faults input.old input.new out.old out.new) result.fault result.told }
 {
     match bytes_for(alloc, input, command.limit()) {
@@ -101,7 +102,8 @@ fn bytes_for<I: Source>(
     input: &mut I,
     limit: Option<usize>,
 ) -> Result<Vec<u8>, ReadStop>
-    requires { IfSome limit (λ n. n < 2 ^ 40) }
+    requires limit { IfSome limit (λ n. n < 2 ^ 40) }
+    requires goes_on { I.ended input.old ≡ false }
     ensures bytes { IfOk result (λ v. Gets limit (I.left input.old) v.items (I.left input.new) (input.new ≡ input.old)) }
     ensures fault { result ≡ Err stop.Fault → Rose (I.faults input.old) (I.faults input.new) }
     ensures sound { OnOk result (I.faults input.new ≡ I.faults input.old) }

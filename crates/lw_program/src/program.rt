@@ -1,5 +1,5 @@
 //! The top call: what the words ask for, over a source, a sink, clocks and a gate.
-ghost use Rattle.std.specs.Prelude.{◌≡◌, ◌≢◌, ◌≤◌, ◌↔◌, ◌⊎◌, Some, None, vec_len, IfOk, IfSome};
+ghost use Rattle.std.specs.Prelude.{◌≡◌, ◌≢◌, ◌≤◌, ◌↔◌, ◌⊎◌, false, Some, None, vec_len, IfOk, IfSome};
 ghost use Rattle.lw_base.specs.Outside.{Rose};
 ghost use Rattle.lw_program.specs.Words.{asked};
 ghost use Rattle.lw_program.specs.Served.{Serves};
@@ -31,7 +31,8 @@ pub fn lightrun<R, I: Source, O: Sink, C: Clock + Drop, G: Gate>(
     clocks: Vec<C>,
     gate: &G,
 ) -> Finish
-    requires { vec_len clocks ≡ 16 }
+    requires clocks { vec_len clocks ≡ 16 }
+    requires goes_on { I.ended input.old ≡ false }
     ensures status { (result.status ≡ end_status result.fault) × (result.status ≤ 6) }
     ensures usage { result.status ≢ 5 → (result.status ≡ 1) ↔ (asked words.now ≡ None) }
     ensures unread { result.status ≡ 1 → input.new ≡ input.old }
@@ -73,6 +74,7 @@ fn obey<R, I: Source, O: Sink, C: Clock + Drop, G: Gate>(
     gate: &G,
 ) -> Finish
     requires clocks { vec_len clocks ≡ 16 }
+    requires goes_on { I.ended input.old ≡ false }
     requires served { IfOk asked (λ c. IfSome c Serves) }
     ensures { EndsAsked asked (seen I.left I.faults O.holds O.faults input.old input.new out.old out.new)
         result.fault result.told }
@@ -94,6 +96,7 @@ fn obey_line<R, I: Source, O: Sink, C: Clock + Drop, G: Gate>(
     gate: &G,
 ) -> Finish
     requires clocks { vec_len clocks ≡ 16 }
+    requires goes_on { I.ended input.old ≡ false }
     requires served { IfSome asked Serves }
     ensures { Ends asked (seen I.left I.faults O.holds O.faults input.old input.new out.old out.new)
         result.fault result.told }
@@ -115,6 +118,7 @@ fn finish_of<R, I: Source, O: Sink, C: Clock + Drop, G: Gate>(
     gate: &G,
 ) -> Finish
     requires clocks { vec_len clocks ≡ 16 }
+    requires goes_on { I.ended input.old ≡ false }
     requires served { Serves line }
     ensures { Ends (Some line) (seen I.left I.faults O.holds O.faults input.old input.new out.old out.new)
         result.fault result.told }

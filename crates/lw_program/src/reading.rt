@@ -1,5 +1,5 @@
 //! All of a source, up to a limit.
-ghost use Rattle.std.specs.Prelude.{◌≡◌, ◌+◌, ◌^◌, ◌<◌, ◌≤◌, [], ◌++◌, length, vec_len, take, IfOk, IfSome, OnOk};
+ghost use Rattle.std.specs.Prelude.{◌≡◌, ◌+◌, ◌^◌, ◌<◌, ◌≤◌, ◌==◌, false, [], ◌++◌, length, vec_len, take, IfOk, IfSome, OnOk};
 ghost use Rattle.lw_base.specs.Outside.{Rose, HasGiven};
 ghost use Rattle.lw_program.specs.Bytes.{IsReadUpTo, GivesMore};
 ghost use Rattle.lw_program.specs.declared.reading.ReadStop.TheVariants.{Fault, NoMemory};
@@ -38,7 +38,8 @@ pub fn read_up_to<I: Source>(
     input: &mut I,
     limit: usize,
 ) -> Result<Vec<u8>, ReadStop>
-    requires { limit < 2 ^ 40 }
+    requires limit { limit < 2 ^ 40 }
+    requires goes_on { I.ended input.old ≡ false }
     ensures bytes { IfOk result (λ v. IsReadUpTo limit (I.left input.old) v.items (I.left input.new)) }
     ensures fault { result ≡ Err Fault → Rose (I.faults input.old) (I.faults input.new) }
     ensures sound { OnOk result (I.faults input.new ≡ I.faults input.old) }
@@ -68,9 +69,11 @@ fn read_next<I: Source>(
     piece: &mut Vec<u8>,
     room: usize,
 ) -> Result<usize, ReadStop>
-    requires { (0 < room) × (0 < vec_len piece.old) }
+    requires room { (0 < room) × (0 < vec_len piece.old) }
+    requires goes_on { I.ended input.old ≡ false }
     ensures count { IfOk result (λ n. (n ≤ room) × (vec_len bytes.new ≡ vec_len bytes.old + n)) }
     ensures piece { vec_len piece.new ≡ vec_len piece.old }
+    ensures ended { IfOk result (λ n. I.ended input.new ≡ (n == 0)) }
     ensures more { OnOk result (GivesMore (I.left input.old) bytes.old.items bytes.new.items (I.left input.new)) }
     ensures end { IfOk result (λ n. n ≡ 0 → IfSome (I.left input.old) (λ rest. rest ≡ [])) }
     ensures fault { result ≡ Err Fault → Rose (I.faults input.old) (I.faults input.new) }
@@ -87,8 +90,10 @@ fn read_piece<I: Source>(
     bytes: &mut Vec<u8>,
     piece: &mut [u8],
 ) -> Result<usize, ReadStop>
-    requires { 0 < length piece.old }
+    requires room { 0 < length piece.old }
+    requires goes_on { I.ended input.old ≡ false }
     ensures count { IfOk result (λ n. (n ≤ length piece.old) × (vec_len bytes.new ≡ vec_len bytes.old + n)) }
+    ensures ended { IfOk result (λ n. I.ended input.new ≡ (n == 0)) }
     ensures more { IfOk result (λ n. bytes.new.items ≡ bytes.old.items ++ take n piece.new) }
     ensures given { IfOk result (λ n. HasGiven (I.left input.old) (take n piece.new) (I.left input.new)) }
     ensures end { IfOk result (λ n. n ≡ 0 → IfSome (I.left input.old) (λ rest. rest ≡ [])) }

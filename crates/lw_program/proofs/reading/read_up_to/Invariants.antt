@@ -1,4 +1,4 @@
-use Rattle.std.proofs.Common.{vec_len, ◌-◌, ◌≡◌, ◌+◌, ◌<◌, ◌≤◌}
+use Rattle.std.proofs.Common.{vec_len, ◌-◌, ◌≡◌, ◌+◌, ◌<◌, ◌≤◌, false}
 use Rattle.lw_base.specs.Outside.{HasGiven}
 use Rattle.lw_program.proofs.reading.read_up_to.Given as goal
 
@@ -9,6 +9,7 @@ invariant-loop-bytes g l =
     × (0 < vec_len l.piece)
     × HasGiven (g.I.Source.left l.fn.input) l.bytes.items (g.I.Source.left l.input)
     × (g.I.Source.faults l.input ≡ g.I.Source.faults l.fn.input)
+    × (g.I.Source.ended l.input ≡ false)
 
 abbrev pub decreases-loop-bytes : goal.decreases-loop-bytes
 decreases-loop-bytes g l = l.limit + 1 - vec_len l.bytes
