@@ -18,7 +18,7 @@ use std::sync::Arc;
 /// How many emptied vectors a receiver keeps.
 const MOST_SPARES: usize = 8;
 
-/// A new ring that can be closed, for `senders` senders, numbered from 0.
+/// A new ring that can be closed, for 1 to 127 senders, numbered from 0. Without memory there is none.
 ///
 /// `number` is that of the receiver, which with the family decides what fits.
 pub fn ring<T: Tagged + Drop>(
@@ -37,7 +37,7 @@ pub fn ring<T: Tagged + Drop>(
     ring_as::<T, Brand>(alloc, senders, number)
 }
 
-/// A new ring without a latch, which is never closed. The rest is as for `ring`.
+/// A new open ring: it has no latch, and is never closed. The rest is as for `ring`.
 pub fn open_ring<T: Tagged + Drop>(
     alloc: Global,
     senders: u32,
