@@ -76,6 +76,16 @@ pub(crate) fn pop<T: Tagged + Drop, R: Wait>(
     queue.pop_as::<Taking, R>(rt, pass)
 }
 
+// Whether nothing waits. It is two loads, and so much less than a pop that finds nothing.
+fn is_empty<T: Tagged + Drop>(queue: &Queue<T>, pass: &mut Pass<T>) -> bool
+    requires { IsSegPassOf queue.now pass.old }
+    ensures queue { IsSegPassOf queue.now pass.new }
+    ensures same { pass.new.me.view.client ≡ pass.old.me.view.client }
+    ensures empty { result ≡ true → Saw T.letter T.tag_of T.fits pass.old.me.view.client [] }
+{
+    queue.is_empty_as::<Taking>(pass)
+}
+
 // Hands out what is in hand, until there are `max` messages.
 fn hand_out<T: Tagged + Drop>(hand: &mut Vec<T>, batch: &mut Vec<T>, max: usize)
     requires room { (length batch.old.items ≤ max) × (max ≤ vec_capacity batch.old) }
@@ -192,6 +202,9 @@ fn fill<T: Tagged + Drop, R: Wait>(
     ensures empty { length batch.new.items < max →
         Saw T.letter T.tag_of T.fits pass.new.me.view.client [] }
 {
+    if batch.len() < max && is_empty(queue, pass) {
+        return;
+    }
     for _ in rt.forever() {
         if batch.len() >= max {
             return;

@@ -20,5 +20,5 @@ loop-preserved g c =
       room = search rules;
       none_in_hand = u.all;
       spares = u.spares;
-      full = λ full. absurd (let same = ap length (i.full full).0 in let more = c.if-len-max.false in omega arith);
+      full = λ full. absurd (let same = ap length (i.full full).0 in let more = c.if-len-max-2.false in omega arith);
     }
