@@ -1,5 +1,6 @@
 //! Gives and releases of a latch.
-ghost use Rattle.std.specs.Prelude.{◌≡◌, ◌+◌, ◌^◌, ◌<◌, ◌≤◌, IfOk, All};
+ghost use Rattle.std.specs.Prelude.{◌≡◌, ◌+◌, ◌<◌, ◌≤◌, IfOk, All};
+ghost use Rattle.lw_latch.specs.DeviceWord.{most_seats, most_gives};
 
 use lw_base::NoMemory;
 use lw_latch::{DeviceSeat, Give, device_latch};
@@ -14,7 +15,7 @@ pub fn run<R: Threads + Sync>(
     rounds: u32,
     threads: u32,
 ) -> Result<(), NoMemory>
-    requires { (1 ≤ threads) × (threads ≤ 127) }
+    requires { (1 ≤ threads) × (threads ≤ most_seats) }
 {
     let mut seats = new_seats(alloc, threads)?;
     thread::for_each_mut(
@@ -27,7 +28,7 @@ pub fn run<R: Threads + Sync>(
 }
 
 fn new_seats(alloc: Global, count: u32) -> Result<Vec<DeviceSeat>, NoMemory>
-    requires { (1 ≤ count) × (count ≤ 127) }
+    requires { (1 ≤ count) × (count ≤ most_seats) }
     ensures { IfOk result (λ v. All (λ e. (e.view.channel ≡ 0) × (e.view.gives ≡ 0)) v.items) }
 {
     device_latch(alloc, count)
@@ -44,7 +45,7 @@ fn give_and_release(seat: &mut DeviceSeat, rounds: u32)
 /// Gets a channel and gives it back. Answers its ordinal, if the latch was open.
 pub fn give_once(seat: &mut DeviceSeat) -> Option<u64>
     requires channel { seat.old.view.channel ≡ 0 }
-    requires room { seat.old.view.gives < 2 ^ 38 }
+    requires room { seat.old.view.gives < most_gives }
     ensures { (seat.new.view.channel ≡ 0) × (seat.new.view.gives ≡ seat.old.view.gives + 1) }
 {
     match seat.give() {

@@ -1,5 +1,6 @@
 //! Gives and releases per second.
 ghost use Rattle.std.specs.Prelude.{◌≤◌};
+ghost use Rattle.lw_latch.specs.DeviceWord.{most_seats};
 
 use crate::{latched, plain};
 use anyhow::Result;
@@ -32,7 +33,7 @@ pub fn measured<R: Threads + Sync + Clock>(
     rounds: u32,
     threads: u32,
 ) -> Result<Rates>
-    requires { (1 ≤ threads) × (threads ≤ 127) }
+    requires { (1 ≤ threads) × (threads ≤ most_seats) }
 {
     let mut best = Rates { latch: 0, word: 0 };
     for _ in 0..RUNS {

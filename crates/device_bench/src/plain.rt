@@ -1,8 +1,10 @@
-//! The same two additions over a bare word.
+//! The same two additions over a bare word, which lies alone on its cache line as a latch's does.
 ghost use Rattle.std.specs.Prelude.{◌≡◌, ◌≤◌};
 
 use atomic_table::{Play, Seat, Split, Table, TableRule};
 use lw_base::NoMemory;
+use lw_latch::device_word::{GIVEN, OPEN};
+use lw_latch::own_line::{WORD, WORDS};
 use std::alloc::Global;
 use std::marker::Model;
 use std::sync::Arc;
@@ -40,17 +42,18 @@ struct Adder {
 impl Model for Adder {
     ghost use Rattle.std.specs.Prelude.{◌≡◌};
     ghost use Rattle.std.specs.Arc.{arc_value};
+    ghost use Rattle.lw_latch.specs.OwnLine.{table_words};
 
     ghost Value = { Unit {0} };
 
     ghost view = { λ _. tt };
 
-    ghost invariant = { λ a. (a.seat.table_id ≡ (arc_value a.word).shared.table_id) × (a.seat.table_id.words ≡ 1) };
+    ghost invariant = { λ a. (a.seat.table_id ≡ (arc_value a.word).shared.table_id) × (a.seat.table_id.words ≡ table_words) };
 }
 
 impl Adder {
     fn new(alloc: Global) -> Result<Adder, NoMemory> {
-        let (word, seat) = Word::of_words(alloc, &[0], &())?;
+        let (word, seat) = Word::of_words(alloc, &[0; WORDS], &())?;
         let word = Arc::new(alloc, word)?;
         Ok(Adder { word, seat })
     }
@@ -71,8 +74,10 @@ impl Adder {
     fn add_and_subtract(&mut self) {
         self.word
             .shared
-            .fetch_add::<Anything>(&mut self.seat, 0, 262_145);
-        self.word.shared.fetch_sub::<Anything>(&mut self.seat, 0, 1);
+            .fetch_add::<Anything>(&mut self.seat, WORD, GIVEN + OPEN);
+        self.word
+            .shared
+            .fetch_sub::<Anything>(&mut self.seat, WORD, OPEN);
     }
 }
 

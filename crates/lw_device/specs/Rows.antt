@@ -5,6 +5,10 @@ use Rattle.lw_latch.specs.DeviceWord.{view_given, view_not_given, view_visiting,
 use Rattle.lw_latch.specs.DeviceEnds.{DeviceLatch, SeatEnd, new_seat, both_ends, HaveFired}
 use Rattle.lw_base.specs.declared.ends.DeviceEnd.{DeviceEnd}
 
+-- the most devices of a registry
+abbrev pub most_devices : ℕ
+most_devices = 16
+
 -- a row: its thread's number, and its seat at the latch of each device
 pub record Row : Type 0 where
   pub thread : ℕ

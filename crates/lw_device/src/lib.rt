@@ -9,8 +9,8 @@ mod making;
 mod row;
 mod settling;
 
+pub use lw_base::DeviceEnd;
 pub use lw_latch::{Firing, Hold, Look};
 pub use making::devices;
 pub use row::{Already, DeviceRow, GetRefusal};
-pub use lw_base::DeviceEnd;
 pub use settling::settle_devices;

@@ -1,7 +1,8 @@
 //! How a registry is made.
 ghost use Rattle.std.specs.Prelude.{◌≡◌, ℕ, ◌<◌, ◌≤◌, [], ◌∷◌, ◌++◌, length, slice_index_or, IfOk};
+ghost use Rattle.lw_latch.specs.DeviceWord.{most_seats};
 ghost use Rattle.lw_latch.specs.DeviceEnds.{SeatEnd};
-ghost use Rattle.lw_device.specs.Rows.{Row, AreNewRows};
+ghost use Rattle.lw_device.specs.Rows.{most_devices, Row, AreNewRows};
 
 use crate::row::DeviceRow;
 use lw_base::NoMemory;
@@ -10,8 +11,8 @@ use std::alloc::Global;
 
 /// The registry of 1 to 16 devices for 1 to 127 threads: a row for each thread, by its number.
 pub fn devices(alloc: Global, count: u32, threads: u32) -> Result<Vec<DeviceRow>, NoMemory>
-    requires count { (1 ≤ count) × (count ≤ 16) }
-    requires threads { (1 ≤ threads) × (threads ≤ 127) }
+    requires count { (1 ≤ count) × (count ≤ most_devices) }
+    requires threads { (1 ≤ threads) × (threads ≤ most_seats) }
     ensures { IfOk result (λ v. AreNewRows count threads v.items) }
 {
     let mut rows = empty_rows(alloc, threads)?;

@@ -1,7 +1,7 @@
 //! A thread's row of the registry.
-ghost use Rattle.std.specs.Prelude.{◌≡◌, ◌≢◌, ℕ, ◌+◌, ◌^◌, ◌<◌, ◌≤◌, [], ◌∷◌, ◌++◌, length, All, IfOk, IfErr};
-ghost use Rattle.lw_latch.specs.DeviceWord.{KnowsOpen, IsAbove, closing_word, held_count};
-ghost use Rattle.lw_latch.specs.DeviceEnds.{FiresOnlyWhatItBegan, MayBeTakenIn};
+ghost use Rattle.std.specs.Prelude.{◌≡◌, ◌≢◌, ℕ, ◌+◌, ◌<◌, ◌≤◌, [], ◌∷◌, ◌++◌, length, All, IfOk, IfErr};
+ghost use Rattle.lw_latch.specs.DeviceWord.{most_gives, KnowsOpen, IsAbove, closing_word, held_count};
+ghost use Rattle.lw_latch.specs.DeviceEnds.{FiresOnlyWhatItBegan, HasAllSeats, MayBeTakenIn};
 ghost use Rattle.lw_device.specs.Rows.{latches, seat_of, with_seat, both_rows, seat_given, seat_not_given, seat_usable, seat_looked, seat_found, seat_visiting, seat_not_visiting, seat_destroyed, seat_began, seat_fired, seat_tried};
 
 use lw_base::NoMemory;
@@ -55,18 +55,24 @@ impl DeviceRow {
         self.seats.len()
     }
 
-    /// Gets this thread's channel of a device, and answers its ordinal: so many were given before it, over all rows.
+    /// Gets this thread's channel of a device, and answers its ordinal. A row has at most one of each device, and calls this
+    /// at most 2^38 times for each.
     ///
-    /// It answers `NoDevice` exactly where the device's number isn't below the count, an ordinal only where this call's own
-    /// step found the device open, and `Shut` only where it found it shut.
+    /// With an ordinal the row holds the channel, and before had neither found the device shut nor shut it, by its own calls
+    /// or by those of a row that it took in. The ordinal is above all that the row was given; where the row has taken in all
+    /// others, it is how many were given. It answers `NoDevice` exactly where the device's number isn't below the count. With
+    /// `Shut` the row holds no channel, and keeps that it found the device shut. What the answers to all rows come to,
+    /// `settle_devices` says.
     pub fn get(&mut self, device: u32) -> Result<u64, GetRefusal>
         requires channel { device < length self.old.seats → (seat_of self.old device).view.channel ≡ 0 }
-        requires room { device < length self.old.seats → (seat_of self.old device).view.gives < 2 ^ 38 }
+        requires room { device < length self.old.seats → (seat_of self.old device).view.gives < most_gives }
         ensures given { IfOk result (λ ordinal.
             (self.new ≡ with_seat self.old device (seat_given ordinal))
             × (device < length self.old.seats)
             × KnowsOpen (seat_of self.old device).view
             × IsAbove ordinal (seat_of self.old device).view.ordinals) }
+        ensures all_given { IfOk result (λ ordinal. HasAllSeats (seat_of self.old device) →
+            ordinal ≡ length (seat_of self.old device).view.ordinals) }
         ensures no_device { IfErr result (λ e. e ≡ GetRefusal.NoDevice →
             (self.new ≡ self.old) × (length self.old.seats ≤ device)) }
         ensures shut { IfErr result (λ e. e ≡ GetRefusal.Shut →
@@ -81,7 +87,10 @@ impl DeviceRow {
         }
     }
 
-    /// Whether a device is shut, as one load finds it: `Usable` never comes once an `unregister` has begun.
+    /// Whether a device is shut.
+    ///
+    /// With `Usable` the row before had neither found the device shut nor shut it, by its own calls or by those of a row that
+    /// it took in. With `Shut` it keeps that it found the device shut.
     pub fn look(&mut self, device: u32) -> Look
         requires { device < length self.old.seats }
         ensures usable { result ≡ Look.Usable →
@@ -102,8 +111,8 @@ impl DeviceRow {
 
     /// Begins this thread's visit of a device, unless the device is shut.
     ///
-    /// It answers `Held` only where this call's own step found the device open, and so never once an `unregister` has begun;
-    /// `Shut` only where that step found the device shut.
+    /// With `Held` the row has the visit, and before had neither found the device shut nor shut it, by its own calls or by
+    /// those of a row that it took in. With `Shut` it has no visit, and keeps that it found the device shut.
     pub fn begin_visit(&mut self, device: u32) -> Hold
         requires device { device < length self.old.seats }
         requires visit { (seat_of self.old device).view.visit ≡ 0 }
@@ -123,11 +132,14 @@ impl DeviceRow {
         self.seats[device as usize].unhold();
     }
 
-    /// Begins the unregistration of a device, and answers how many channels were given. From then on none is, no visit
-    /// begins, and no look finds the device usable: how often all rows found it open stays what it was at this step.
+    /// Begins the unregistration of a device, unless it has begun, and answers how many channels were given.
     ///
-    /// It answers `Already` exactly where the step found the device shut. A row that has found the device shut, or has
-    /// taken in one that had, is never told that it began.
+    /// With a count the row began, and keeps its own number, the count, and how often the device had been found open. Before,
+    /// it had neither found the device shut nor shut it, by its own calls or by those of a row that it took in: a row that has
+    /// taken in all others knows that none of them had found the device shut. The count is above every ordinal that the row
+    /// was given and no less than their number; where the row has taken in all others, it is that number. With `Already` the
+    /// row keeps that it found the device shut. That nothing is given from then on, and no row finds the device open,
+    /// `settle_devices` says.
     pub fn unregister(&mut self, device: u32) -> Result<u64, Already>
         requires { device < length self.old.seats }
         ensures began { IfOk result (λ given.
@@ -137,19 +149,20 @@ impl DeviceRow {
             × (length (seat_of self.old device).view.ordinals ≤ given)
             × ((seat_of self.old device).view.opens ≤ opens)
             × IsAbove given (seat_of self.old device).view.ordinals) }
+        ensures all_given { IfOk result (λ given. HasAllSeats (seat_of self.old device) →
+            given ≡ length (seat_of self.old device).view.ordinals) }
         ensures already { IfErr result (λ _. self.new ≡ with_seat self.old device seat_found) }
     {
-        match self.seats[device as usize].shut() {
-            Shutting::Began { given } => Ok(given),
-            Shutting::Already => Err(Already),
-        }
+        given_where_begun(self.seats[device as usize].shut())
     }
 
-    /// Makes the device's callback due, if no row holds a channel of it or has a visit. It comes once. Only the row whose
-    /// own `unregister` began may call it.
+    /// Makes the device's callback due, if no row holds a channel of it or has a visit. Only the row whose own `unregister`
+    /// began may call it.
     ///
-    /// `NotYet` comes exactly where the device's word was another than that of a device which is shut and has not fired,
-    /// with nothing open and the given count, and carries that word.
+    /// `Fired` comes exactly where the word that was found is that of a device which is shut and has not fired, with nothing
+    /// open and as many given as `unregister` told; the row keeps that word, and before had not fired. `NotYet` carries the
+    /// word that was found, and the row keeps it; where the row has taken in all others, it has a channel or a visit of the
+    /// device, or has fired.
     pub fn callback_due(&mut self, device: u32) -> Firing
         requires device { device < length self.old.seats }
         requires began { (1 ≤ (seat_of self.old device).view.begun)
@@ -161,6 +174,8 @@ impl DeviceRow {
         ensures not_yet { (seen : ℕ) → result ≡ Firing.NotYet seen →
             (self.new ≡ with_seat self.old device (seat_tried seen))
             × (seen ≢ closing_word (seat_of self.old device).view.count) }
+        ensures all_held { (seen : ℕ) → result ≡ Firing.NotYet seen → HasAllSeats (seat_of self.old device) →
+            1 ≤ held_count (seat_of self.old device).view + (seat_of self.old device).view.fired }
     {
         self.seats[device as usize].fire()
     }
@@ -197,5 +212,16 @@ impl DeviceRow {
     {
         self.seats.push(seat)?;
         Ok(())
+    }
+}
+
+// What `unregister` answers where the latch answered this.
+fn given_where_begun(found: Shutting) -> Result<u64, Already>
+    ensures began { IfOk result (λ given. found ≡ Shutting.Began given) }
+    ensures already { IfErr result (λ _. found ≡ Shutting.Already) }
+{
+    match found {
+        Shutting::Began { given } => Ok(given),
+        Shutting::Already => Err(Already),
     }
 }

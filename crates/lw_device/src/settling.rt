@@ -1,7 +1,7 @@
 //! What is known of the devices once all rows are in one hand.
 ghost use Rattle.std.specs.Prelude.{◌≡◌, ℕ, ◌+◌, ◌<◌, ◌≤◌, length, slice_index_or, All, IfOk, IfSome};
 ghost use Rattle.lw_latch.specs.DeviceWord.{IsWhole};
-ghost use Rattle.lw_latch.specs.DeviceEnds.{FiresOnlyWhatItBegan, SeatEnd, Settles};
+ghost use Rattle.lw_latch.specs.DeviceEnds.{FiresOnlyWhatItBegan, HasAllSeats, SeatEnd, Settles};
 ghost use Rattle.lw_device.specs.Rows.{Row, latches, seat_of, seats_of, gathered, AreOfOne, AreAllRows, IsEndOf};
 
 use crate::row::DeviceRow;
@@ -43,7 +43,7 @@ fn join_rows(rows: Vec<DeviceRow>) -> DeviceRow
 
 // What came of each device, by the row that stands for all.
 fn all_ends(alloc: Global, whole: DeviceRow) -> Result<Vec<DeviceEnd>, NoMemory>
-    requires { All (λ e. e.view.seats ≡ e.latch.seats) whole.seats }
+    requires { All HasAllSeats whole.seats }
     ensures count { IfOk result (λ v. length v.items ≡ length whole.seats) }
     ensures each { IfOk result (λ v. (d : ℕ) (x : DeviceEnd) → d < length whole.seats →
         IsEndOf (seat_of whole d) (slice_index_or v.items d x)) }
@@ -58,7 +58,7 @@ fn all_ends(alloc: Global, whole: DeviceRow) -> Result<Vec<DeviceEnd>, NoMemory>
 
 // What came of one.
 fn end_of(mut seat: DeviceSeat) -> DeviceEnd
-    requires { seat.view.seats ≡ seat.latch.seats }
+    requires { HasAllSeats seat }
     ensures { IsEndOf seat result }
 {
     let totals = seat.learn();

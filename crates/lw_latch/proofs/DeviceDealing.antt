@@ -1,5 +1,5 @@
--- Seats of a device's latch are split off and joined, and what a seat knows that stands for all.
-use Rattle.std.proofs.Common.{◌≡◌, ◌==◌, ◌≢◌, ℕ, ◌+◌, ◌/◌, ◌%◌, ◌<◌, ◌≤◌, true, false, true≢false, if◌then◌else◌, eqb, List, [], ◌∷◌, ◌++◌, length, set, refl, sym, ap, ◌∙◌, subst, ⊎_elim, arith, slice_index, eq-eqb, ne_eqb, length-append}
+-- Seats of a device's latch are split off and joined, and one that stands for all learns what the word says.
+use Rattle.std.proofs.Common.{◌≡◌, ◌==◌, ◌≢◌, ℕ, ◌+◌, ◌≤◌, if◌then◌else◌, List, [], ◌∷◌, ◌++◌, set, refl, sym, ap, ◌∙◌, subst, ⊎_elim, arith, slice_index, eq-eqb, ne_eqb, length-append}
 use mathlib.Core.Option.{none, some}
 use mathlib.Core.Logic.{dite}
 use native.Mathlib.Decide.{ℕ_discrete}
@@ -8,17 +8,15 @@ use Rattle.atomic_table.specs.Table.{keeps, step, Allows, Splits, Joins}
 use Rattle.atomic_table.proofs.Lists.{at_set, at_snoc, set_else}
 use Rattle.lw_latch.specs.declared.device_view.DeviceView.{DeviceView}
 use Rattle.lw_base.specs.Totals.{total}
-use Rattle.lw_latch.specs.DeviceWord.{seats, given_count, backing_count, begun_count, count, opens, opens_then, fired_count, held_count, open_count, times, times_given, device_word, Suits, Tied, idle_view, one_seat, less_one_seat, both_views, spent_device, IsWhole, LearnsAll}
-use Rattle.lw_base.proofs.Totals.{total_set, total_snoc, total_only, others_none, at_le}
-use Rattle.lw_latch.proofs.DeviceMoves.{St, Sat, bounded, reads, moved}
+use Rattle.lw_latch.specs.OwnLine.{latch_word, alone}
+use Rattle.lw_latch.specs.DeviceWord.{seats, given_count, backing_count, begun_count, count, opens, opens_then, fired_count, held_count, open_count, times, times_given, Suits, Tied, idle_view, one_seat, less_one_seat, both_views, spent_device, Sat, LearnsAll}
+use Rattle.lw_base.proofs.Totals.{total_set, total_snoc, at_le}
+use Rattle.lw_latch.proofs.DeviceMoves.{reads, moved}
+use Rattle.lw_latch.proofs.DeviceTelling.{tells}
 
 times_append : (k : ℕ) (xs ys : List ℕ) → times k (xs ++ ys) ≡ times k xs + times k ys
 times_append k [] ys = omega arith
 times_append k (x ∷ xs) ys = let r = times_append k xs ys in omega arith
-
-times_none : (k : ℕ) (xs : List ℕ) → length xs ≡ 0 → times k xs ≡ 0
-times_none k [] e = refl
-times_none k (x ∷ xs) e = absurd (omega arith)
 
 pub splits : (all id : ℕ) (v : DeviceView) → 2 ≤ v.seats → v ≡ idle_view v.all v.seats → Splits (Tied all) id v (less_one_seat v) (one_seat v)
 splits all id v some_seats idle s h at =
@@ -59,7 +57,7 @@ splits all id v some_seats idle s h at =
     record {
       few = h.few;
       all_seats = omega arith;
-      word = h.word ∙ ap (λ k. k ∷ []) (omega arith);
+      word = h.word ∙ ap alone (omega arith);
       one_begun = omega arith;
       settled = λ z. (let o = h.settled (omega arith) in omega arith);
       before = λ z. (let o = h.before (omega arith) in omega arith);
@@ -149,7 +147,7 @@ joins all id v other u some_v some_u s h at apart there =
     record {
       few = h.few;
       all_seats = omega arith;
-      word = h.word ∙ ap (λ k. k ∷ []) (omega arith);
+      word = h.word ∙ ap alone (omega arith);
       one_begun = omega arith;
       settled = λ z. (let o = h.settled (omega arith) in omega arith);
       before = λ z. (let o = h.before (omega arith) in omega arith);
@@ -191,57 +189,12 @@ joins all id v other u some_v some_u s h at apart there =
           (at_set vs other j spent_device y e));
     }
 
--- where a view stands for all seats, no other has anything
-tells : (all : ℕ) (s : St) (id : ℕ) (v : DeviceView) → Tied all s → get_elem? s.views id ≡ some v → 1 ≤ v.seats → v.seats ≡ v.all
-    → (slice_index s.words 0 ≡ device_word (v ∷ [])) × (open_count v < 65536) × IsWhole v
-tells all s id v h at some_seat has_all =
-    let f = h.each id v at in
-    let of = f.of_latch some_seat in
-    let a = h.all_seats in
-    let none : (j : ℕ) (u : DeviceView) → j ≢ id → get_elem? s.views j ≡ some u → u.seats ≡ 0 = others_none seats s.views id v at (omega arith) in
-    let to = total_only open_count s.views id v at (λ j u apart e. (let z = none j u apart e in let g = h.each j u e in let p = g.one_channel in let q = g.one_visit in omega arith)) in
-    let tk = total_only backing_count s.views id v at (λ j u apart e. (let z = none j u apart e in let p = (h.each j u e).one_channel in omega arith)) in
-    let th = total_only held_count s.views id v at (λ j u apart e. (let z = none j u apart e in let g = h.each j u e in let p = g.one_channel in let q = g.one_visit in omega arith)) in
-    let tg = total_only given_count s.views id v at (λ j u apart e. ((h.each j u e).none_given (none j u apart e)).0) in
-    let tn = total_only opens s.views id v at (λ j u apart e. ((h.each j u e).none_given (none j u apart e)).1) in
-    let tb = total_only begun_count s.views id v at (λ j u apart e. (let z = none j u apart e in let p = (h.each j u e).began in omega arith)) in
-    let tc = total_only count s.views id v at (λ j u apart e. (let z = none j u apart e in let g = h.each j u e in let p = g.began in (g.counts (omega arith)).0)) in
-    let tm = total_only opens_then s.views id v at (λ j u apart e. (let z = none j u apart e in let g = h.each j u e in let p = g.began in (g.counts (omega arith)).1)) in
-    let tf = total_only fired_count s.views id v at (λ j u apart e. (let z = none j u apart e in let g = h.each j u e in let p = g.began in let q = g.fired_begun in omega arith)) in
-    let tt' : (k : ℕ) → total (times_given k) s.views ≡ times k v.ordinals = λ k. total_only (times_given k) s.views id v at (λ j u apart e. times_none k u.ordinals ((h.each j u e).none_given (none j u apart e)).0) in
-    let is = (reads all s h).is in
-    let few = (bounded all s h).few_open in
-    let once = h.one_begun in (
-      (omega arith),
-      (omega arith),
-      record {
-        ordinals = record { once = λ k l. sym (tt' k) ∙ h.once k (omega arith); none_else = λ k l. sym (tt' k) ∙ h.none_else k (omega arith) };
-        found = λ some_found. dite (ℕ_discrete (total begun_count s.views) 0) (λ z. absurd (let p = f.found_shut z in omega arith)) (λ nz. omega arith);
-        begun = omega arith;
-        settled = λ z. (let o = h.settled (omega arith) in omega arith);
-        before = λ z. (let o = h.before (omega arith) in omega arith);
-        fired = f.fired_begun;
-        quiet = λ z. (let o = h.quiet (omega arith) in omega arith);
-      },
-    )
-
-pub learns : (all slots id : ℕ) (me : Sat) → Allows (Tied all) slots id me 0 (λ n. n) (LearnsAll (step slots 0 0 0 none) me)
+pub learns : (all slots id : ℕ) (me : Sat) → Allows (Tied all) slots id me latch_word (λ n. n) (LearnsAll (step slots latch_word 0 0 none) me)
 learns all slots id me s h _ at small =
     let is = (reads all s h).is in (
       me.0,
       keeps,
       tt,
-      moved all s id me.0 me.0 (slice_index s.words 0) me.1 h at refl refl refl refl refl refl (omega arith) (λ _. (omega arith, refl)) (h.each id me.0 at),
-      (refl, λ some_seat has_all. tells all s id me.0 h at some_seat has_all),
+      moved all s id me.0 me.0 (slice_index s.words latch_word) me.1 h at refl refl refl refl refl refl (omega arith) (λ _. (omega arith, refl)) (h.each id me.0 at),
+      record { same = refl; all = λ stands. tells all s id me.0 h at stands },
     )
-
--- the parts of the word of one view that stands for all
-pub word_parts : (v : DeviceView) (word : ℕ) → v.backing ≡ 0 → word ≡ device_word (v ∷ []) → open_count v < 65536 → IsWhole v
-    → (word / 262144 ≡ length v.ordinals) × ((eqb (word / 131072 % 2) 1 ≡ true → v.fired ≡ 1) × (eqb (word / 131072 % 2) 1 ≡ false → v.fired ≡ 0))
-word_parts v word none_back is few whole =
-    let once = whole.begun in
-    let fires = whole.fired in
-    let bit : word / 131072 % 2 ≡ v.fired = omega arith in
-    dite (ℕ_discrete v.fired 0)
-    (λ unfired. (omega arith, ((λ yes. absurd (true≢false (sym yes ∙ ap (λ k. eqb k 1) (bit ∙ unfired)))), λ _. unfired)))
-    (λ has. (omega arith, ((λ _. omega arith), λ no. absurd (true≢false (sym (eq-eqb (word / 131072 % 2) 1 (omega arith)) ∙ no)))))

@@ -1,5 +1,5 @@
 -- The steps that shut a device's latch, and that fire it, keep its rule.
-use Rattle.std.proofs.Common.{◌≡◌, ◌≢◌, ℕ, ◌+◌, ◌/◌, ◌≤◌, eqb, List, [], ◌∷◌, set, refl, sym, ap, ◌∙◌, subst, ⊎_elim, arith, slice_index, eq-eqb, ne_eqb, bit_or}
+use Rattle.std.proofs.Common.{◌≡◌, ◌≢◌, ℕ, ◌+◌, ◌≤◌, eqb, List, set, refl, sym, ap, ◌∙◌, subst, ⊎_elim, arith, slice_index, eq-eqb, ne_eqb, bit_or}
 use mathlib.Core.Option.{none, some}
 use mathlib.Core.Logic.{dite}
 use native.Mathlib.Decide.{ℕ_discrete}
@@ -9,16 +9,18 @@ use Rattle.atomic_table.specs.Table.{keeps, step, stepped, Allows}
 use Rattle.atomic_table.proofs.Lists.{at_set}
 use Rattle.lw_latch.specs.declared.device_view.DeviceView.{DeviceView}
 use Rattle.lw_base.specs.Totals.{total}
-use Rattle.lw_latch.specs.DeviceWord.{seats, given_count, backing_count, begun_count, count, opens, opens_then, fired_count, held_count, open_count, times_given, device_word, Suits, Tied, shut_bit, closing_word, view_found, view_begun, view_fired, view_tried, Begins, TriesToFire}
+use Rattle.lw_latch.specs.OwnLine.{latch_word, alone}
+use Rattle.lw_latch.specs.DeviceWord.{shut_unit, fired_unit, seats, given_count, backing_count, begun_count, count, opens, opens_then, fired_count, held_count, open_count, times_given, device_word, Suits, Tied, shut_bit, word_given, closing_word, view_found, view_begun, view_fired, view_tried, Sat, Begins, TriesToFire}
 use Rattle.lw_base.proofs.Totals.{total_set, at_le, total_zero}
 use Rattle.lw_latch.proofs.ShutBit.{sets_shut, keeps_shut}
-use Rattle.lw_latch.proofs.DeviceMoves.{St, Sat, bounded, reads, moved}
+use Rattle.lw_latch.proofs.DeviceMoves.{St, bounded, reads, moved}
+use Rattle.lw_latch.proofs.DeviceTelling.{tells}
 use Rattle.lw_latch.proofs.DeviceSteps.{grown}
 
 -- an open latch is shut
 begins_one : (all : ℕ) (s : St) (id : ℕ) (v : DeviceView) (n m o : ℕ) (c : List (ℕ × Unit {0})) → Tied all s → get_elem? s.views id ≡ some v
-    → total begun_count s.views ≡ 0 → 1 ≤ v.seats → n ≡ device_word s.views + 65536 → m ≡ total given_count s.views → o ≡ total opens s.views
-    → Tied all (stepped s 0 n id c (view_begun m o v) keeps)
+    → total begun_count s.views ≡ 0 → 1 ≤ v.seats → n ≡ device_word s.views + shut_unit → m ≡ total given_count s.views → o ≡ total opens s.views
+    → Tied all (stepped s latch_word n id c (view_begun m o v) keeps)
 begins_one all s id v n m o c h at unshut some_seat is told often =
     let w : DeviceView = view_begun m o v in
     let vs : List DeviceView = set s.views id w in
@@ -45,7 +47,7 @@ begins_one all s id v n m o c h at unshut some_seat is told often =
     record {
       few = h.few;
       all_seats = omega arith;
-      word = ap (λ l. set l 0 n) h.word ∙ ap (λ k. k ∷ []) sum;
+      word = ap (λ l. set l latch_word n) h.word ∙ ap alone sum;
       one_begun = omega arith;
       settled = λ _. omega arith;
       before = λ _. omega arith;
@@ -74,10 +76,10 @@ begins_one all s id v n m o c h at unshut some_seat is told often =
     }
 
 pub shuts : (all slots id : ℕ) (me : Sat) → 1 ≤ me.0.seats
-    → Allows (Tied all) slots id me 0 (λ n. bit_or n 65536) (Begins (step slots 0 65536 0 none) me)
+    → Allows (Tied all) slots id me latch_word (λ n. bit_or n shut_unit) (Begins (step slots latch_word shut_unit 0 none) me)
 shuts all slots id me some_seat s h _ at small =
     let v = me.0 in
-    let n : ℕ = slice_index s.words 0 in
+    let n : ℕ = slice_index s.words latch_word in
     let r = reads all s h in
     let is = r.is in
     let bit = r.bit in
@@ -85,25 +87,36 @@ shuts all slots id me some_seat s h _ at small =
     let mine = at_le begun_count s.views id v at in
     dite (ℕ_discrete (shut_bit n) 0)
     (λ unshut. (
-      view_begun (n / 262144) (total opens s.views) v,
+      view_begun (word_given n) (total opens s.views) v,
       keeps,
       tt,
-      begins_one all s id v (bit_or n 65536) (n / 262144) (total opens s.views) me.1 h at (omega arith) some_seat (let o = sets_shut n unshut in omega arith) (r.unshut (omega arith)) refl,
-      ((λ _. (total opens s.views, refl, (f.found_shut (omega arith), omega arith), (let g = r.unshut (omega arith) in let t = at_le given_count s.views id v at in omega arith), at_le opens s.views id v at, λ k l. (let z = h.none_else k (let g = r.unshut (omega arith) in omega arith) in let t = at_le (times_given k) s.views id v at in omega arith))), λ shut. absurd (shut unshut)),
+      begins_one all s id v (bit_or n shut_unit) (word_given n) (total opens s.views) me.1 h at (omega arith) some_seat (let o = sets_shut n unshut in omega arith) (r.unshut (omega arith)) refl,
+      record {
+        began = λ _. record {
+          often = total opens s.views;
+          seat = refl;
+          knew = (f.found_shut (omega arith), omega arith);
+          own_given = (let g = r.unshut (omega arith) in let t = at_le given_count s.views id v at in omega arith);
+          own_opens = at_le opens s.views id v at;
+          above = λ k l. (let z = h.none_else k (let g = r.unshut (omega arith) in omega arith) in let t = at_le (times_given k) s.views id v at in omega arith);
+        };
+        already = λ not. absurd (not unshut);
+        all = λ stands. tells all s id v h at stands;
+      },
     ))
     (λ shut. (
       view_found v,
       keeps,
       tt,
-      moved all s id v (view_found v) (bit_or n 65536) me.1 h at refl refl refl refl refl refl (let o = keeps_shut n shut in omega arith) (λ _. (omega arith, refl))
+      moved all s id v (view_found v) (bit_or n shut_unit) me.1 h at refl refl refl refl refl refl (let o = keeps_shut n shut in omega arith) (λ _. (omega arith, refl))
           (grown all (total begun_count s.views) v v.gives v.looks (v.found + 1) v.tries v.seen f (λ z. shut (omega arith)) (omega arith) f.few_gives),
-      ((λ unshut. absurd (shut unshut)), λ _. refl),
+      record { began = λ unshut. absurd (shut unshut); already = λ _. refl; all = λ stands. tells all s id v h at stands },
     ))
 
 -- a shut latch with nothing open fires
 fires_once : (all : ℕ) (s : St) (id : ℕ) (v : DeviceView) (n m seen : ℕ) (c : List (ℕ × Unit {0})) → Tied all s → get_elem? s.views id ≡ some v
-    → 1 ≤ v.begun → device_word s.views ≡ closing_word m → n ≡ device_word s.views + 131072
-    → Tied all (stepped s 0 n id c (view_fired seen v) keeps)
+    → 1 ≤ v.begun → device_word s.views ≡ closing_word m → n ≡ device_word s.views + fired_unit
+    → Tied all (stepped s latch_word n id c (view_fired seen v) keeps)
 fires_once all s id v n m seen c h at began closing is =
     let w : DeviceView = view_fired seen v in
     let vs : List DeviceView = set s.views id w in
@@ -134,7 +147,7 @@ fires_once all s id v n m seen c h at began closing is =
     record {
       few = h.few;
       all_seats = omega arith;
-      word = ap (λ l. set l 0 n) h.word ∙ ap (λ k. k ∷ []) sum;
+      word = ap (λ l. set l latch_word n) h.word ∙ ap alone sum;
       one_begun = omega arith;
       settled = λ z. (let o = h.settled (omega arith) in omega arith);
       before = λ z. (let o = h.before (omega arith) in omega arith);
@@ -149,11 +162,11 @@ fires_once all s id v n m seen c h at began closing is =
           (at_set s.views id j w u e));
     }
 
-pub fires : (all slots id : ℕ) (me : Sat) (m old new : ℕ) → 1 ≤ me.0.begun → old ≡ closing_word m → new ≡ old + 131072
-    → Allows (Tied all) slots id me 0 (λ n. either (eqb n old) new n) (TriesToFire (step slots 0 old new none) me)
+pub fires : (all slots id : ℕ) (me : Sat) (m old new : ℕ) → 1 ≤ me.0.begun → old ≡ closing_word m → new ≡ old + fired_unit
+    → Allows (Tied all) slots id me latch_word (λ n. either (eqb n old) new n) (TriesToFire (step slots latch_word old new none) me)
 fires all slots id me m old new began is_old is_new s h _ at small =
     let v = me.0 in
-    let n : ℕ = slice_index s.words 0 in
+    let n : ℕ = slice_index s.words latch_word in
     let r = reads all s h in
     let is = r.is in
     let mine = at_le begun_count s.views id v at in
@@ -170,16 +183,16 @@ fires all slots id me m old new began is_old is_new s h _ at small =
       view_fired n v,
       keeps,
       tt,
-      subst (λ b. Tied all (stepped s 0 (either b new n) id me.1 (view_fired n v) keeps)) (sym (eq-eqb n old hit))
+      subst (λ b. Tied all (stepped s latch_word (either b new n) id me.1 (view_fired n v) keeps)) (sym (eq-eqb n old hit))
           (fires_once all s id v new m n me.1 h at began (omega arith) (omega arith)),
-      ((λ _. (refl, (omega arith), omega arith)), λ not. absurd (not hit)),
+      record { fired = λ _. (refl, (omega arith), omega arith); in_vain = λ not. absurd (not hit); all = λ stands. tells all s id v h at stands },
     ))
     (λ miss. (
       view_tried n v,
       keeps,
       tt,
-      subst (λ b. Tied all (stepped s 0 (either b new n) id me.1 (view_tried n v) keeps)) (sym (ne_eqb n old miss))
+      subst (λ b. Tied all (stepped s latch_word (either b new n) id me.1 (view_tried n v) keeps)) (sym (ne_eqb n old miss))
           (moved all s id v (view_tried n v) n me.1 h at refl refl refl refl refl refl (omega arith) (λ _. (omega arith, refl))
           (grown all (total begun_count s.views) v v.gives v.looks v.found (v.tries + 1) n (h.each id v at) (λ z. omega arith) (omega arith) ((h.each id v at).few_gives))),
-      ((λ hit. absurd (miss hit)), λ _. refl),
+      record { fired = λ hit. absurd (miss hit); in_vain = λ _. refl; all = λ stands. tells all s id v h at stands },
     ))

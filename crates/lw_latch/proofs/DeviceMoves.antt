@@ -1,27 +1,25 @@
 -- What the rule of a device's latch bounds, and that it is kept where one view changes.
-use Rattle.std.proofs.Common.{◌≡◌, ◌≢◌, ℕ, ◌+◌, ◌*◌, ◌/◌, ◌<◌, ◌≤◌, List, [], ◌∷◌, length, set, refl, sym, ap, ◌∙◌, subst, ⊎_elim, arith, slice_index}
+use Rattle.std.proofs.Common.{◌≡◌, ◌≢◌, ℕ, ◌+◌, ◌*◌, ◌^◌, ◌<◌, ◌≤◌, List, [], length, set, refl, sym, ap, ◌∙◌, subst, ⊎_elim, arith, slice_index}
 use mathlib.Core.Option.{some, some-ne-none}
 use mathlib.Core.Logic.{dite}
 use native.Mathlib.Decide.{ℕ_discrete}
 use lib.ListN.{get_elem?}
-use Rattle.atomic_table.specs.Table.{State, Me, keeps, stepped, opening}
+use Rattle.atomic_table.specs.Table.{State, keeps, stepped, opening}
 use Rattle.atomic_table.proofs.Lists.{at_set, at_snoc}
 use Rattle.lw_latch.specs.declared.device_view.DeviceView.{DeviceView}
 use Rattle.lw_base.specs.Totals.{total}
-use Rattle.lw_latch.specs.DeviceWord.{seats, given_count, backing_count, begun_count, count, opens, opens_then, fired_count, held_count, open_count, times, times_given, device_word, Suits, Tied, first_view, shut_bit}
+use Rattle.lw_latch.specs.OwnLine.{latch_word, alone}
+use Rattle.lw_latch.specs.DeviceWord.{most_seats, most_gives, given_unit, word_given, seats, given_count, backing_count, begun_count, count, opens, opens_then, fired_count, held_count, open_count, times, times_given, device_word, Suits, Tied, first_view, shut_bit}
 use Rattle.lw_base.proofs.Totals.{total_set, total_le, total_scaled, total_zero}
 
 abbrev pub St : Type 0
 St = State (Unit {0}) DeviceView
 
-abbrev pub Sat : Type 0
-Sat = Me (Unit {0}) DeviceView
-
 -- the bounds that the rule gives
 pub record Bounded (vs : List DeviceView) : Type 0 where
-  pub few_open : total open_count vs ≤ 254
-  pub few_backing : total backing_count vs ≤ 127
-  pub few_given : total given_count vs ≤ 34909494181888
+  pub few_open : total open_count vs ≤ 2 * most_seats
+  pub few_backing : total backing_count vs ≤ most_seats
+  pub few_given : total given_count vs ≤ most_seats * most_gives
   pub fired_begun : total fired_count vs ≤ total begun_count vs
   pub held_opened : total held_count vs ≤ total open_count vs
 
@@ -33,8 +31,8 @@ bounded all s h =
     let o = total_le open_count (λ v. 2 * v.seats) vs (λ i v e. (let f = h.each i v e in let a = f.one_channel in let b = f.one_visit in omega arith)) in
     let os = total_scaled 2 seats vs in
     let b = total_le backing_count seats vs (λ i v e. (let a = (h.each i v e).one_channel in omega arith)) in
-    let g = total_le given_count (λ v. 274877906944 * v.seats) vs (λ i v e. given_few v (h.each i v e)) in
-    let gs = total_scaled 274877906944 seats vs in
+    let g = total_le given_count (λ v. most_gives * v.seats) vs (λ i v e. given_few v (h.each i v e)) in
+    let gs = total_scaled most_gives seats vs in
     record {
       few_open = omega arith;
       few_backing = omega arith;
@@ -43,13 +41,13 @@ bounded all s h =
       held_opened = total_le held_count open_count vs (λ i v e. omega arith);
     }
   where
-    given_few : (v : DeviceView) → Suits all (total begun_count s.views) v → given_count v ≤ 274877906944 * v.seats
+    given_few : (v : DeviceView) → Suits all (total begun_count s.views) v → given_count v ≤ most_gives * v.seats
     given_few v f = dite (ℕ_discrete v.seats 0)
         (λ none. (let z = (f.none_given none).0 in omega arith))
         (λ some_seat. (let g = f.few_given (omega arith) in let c = f.few_gives in omega arith))
 
-pub word_found : (all : ℕ) (s : St) → Tied all s → slice_index s.words 0 ≡ device_word s.views
-word_found all s h = ap (λ l. slice_index l 0) h.word
+pub word_found : (all : ℕ) (s : St) → Tied all s → slice_index s.words latch_word ≡ device_word s.views
+word_found all s h = ap (λ l. slice_index l latch_word) h.word
 
 -- before the latch is shut nobody takes anything back
 pub none_backing : (all : ℕ) (s : St) → Tied all s → total begun_count s.views ≡ 0 → total backing_count s.views ≡ 0
@@ -59,14 +57,14 @@ none_backing all s h unshut = total_zero backing_count s.views (λ i v e. (let b
 pub record Read (all : ℕ) (s : St) (n : ℕ) : Type 0 where
   pub is : n ≡ device_word s.views
   pub bit : shut_bit n ≡ total begun_count s.views
-  pub fits : n < 9223372036854775808
-  pub unshut : total begun_count s.views ≡ 0 → n / 262144 ≡ total given_count s.views
+  pub fits : n < 2 ^ 63
+  pub unshut : total begun_count s.views ≡ 0 → word_given n ≡ total given_count s.views
   pub unbacked : total begun_count s.views ≡ 0 → total backing_count s.views ≡ 0
   pub unfired : total begun_count s.views ≡ 0 → total fired_count s.views ≡ 0
 
-pub reads : (all : ℕ) (s : St) → Tied all s → Read all s (slice_index s.words 0)
+pub reads : (all : ℕ) (s : St) → Tied all s → Read all s (slice_index s.words latch_word)
 reads all s h =
-    let n : ℕ = slice_index s.words 0 in
+    let n : ℕ = slice_index s.words latch_word in
     let w = word_found all s h in
     let b = bounded all s h in
     let o = b.few_open in
@@ -86,10 +84,10 @@ reads all s h =
 -- one view changes in what it has open, or in what it knows
 pub moved : (all : ℕ) (s : St) (id : ℕ) (v w : DeviceView) (n : ℕ) (c : List (ℕ × Unit {0})) → Tied all s → get_elem? s.views id ≡ some v
     → w.seats ≡ v.seats → w.ordinals ≡ v.ordinals → w.begun ≡ v.begun → w.count ≡ v.count → w.opens_then ≡ v.opens_then → w.fired ≡ v.fired
-    → n + open_count v + 262144 * v.backing ≡ device_word s.views + open_count w + 262144 * w.backing
+    → n + open_count v + given_unit * v.backing ≡ device_word s.views + open_count w + given_unit * w.backing
     → (1 ≤ total begun_count s.views → (held_count w ≤ held_count v) × (w.opens ≡ v.opens))
     → Suits all (total begun_count s.views) w
-    → Tied all (stepped s 0 n id c w keeps)
+    → Tied all (stepped s latch_word n id c w keeps)
 moved all s id v w n c h at p o be co ot fi is stays suits =
     let vs : List DeviceView = set s.views id w in
     let ts = total_set seats s.views id v w at in
@@ -113,7 +111,7 @@ moved all s id v w n c h at p o be co ot fi is stays suits =
     record {
       few = h.few;
       all_seats = omega arith;
-      word = ap (λ l. set l 0 n) h.word ∙ ap (λ k. k ∷ []) sum;
+      word = ap (λ l. set l latch_word n) h.word ∙ ap alone sum;
       one_begun = omega arith;
       settled = λ z. (let old = h.settled (omega arith) in omega arith);
       before = λ z. (let old = h.before (omega arith) in let still = (stays (omega arith)).1 in omega arith);
@@ -124,7 +122,7 @@ moved all s id v w n c h at p o be co ot fi is stays suits =
           (⊎_elim (λ (x : (j ≡ id) × (w ≡ u)). subst (λ y. Suits all (total begun_count s.views) y) x.1 suits) (λ (x : (j ≢ id) × (get_elem? s.views j ≡ some u)). h.each j u x.1) (at_set s.views id j w u e));
     }
 
-pub begins : (all : ℕ) → all ≤ 127 → Tied all (opening (0 ∷ []) [] (first_view all))
+pub begins : (all : ℕ) → all ≤ most_seats → Tied all (opening (alone 0) [] (first_view all))
 begins all few =
     record {
       few = few;

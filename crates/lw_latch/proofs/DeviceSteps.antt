@@ -1,5 +1,5 @@
 -- Each kind of step keeps the rule of a device's latch.
-use Rattle.std.proofs.Common.{◌≡◌, ◌≢◌, ℕ, ◌+◌, ◌-◌, ◌/◌, ◌%◌, ◌^◌, ◌<◌, ◌≤◌, if◌then◌else◌, List, [], ◌∷◌, ◌++◌, set, refl, sym, ap, ◌∙◌, subst, ⊎_elim, arith, slice_index, eq-eqb, ne_eqb, length-append}
+use Rattle.std.proofs.Common.{◌≡◌, ◌≢◌, ℕ, ◌+◌, ◌-◌, ◌%◌, ◌^◌, ◌<◌, ◌≤◌, if◌then◌else◌, List, [], ◌∷◌, ◌++◌, set, refl, sym, ap, ◌∙◌, subst, ⊎_elim, arith, slice_index, eq-eqb, ne_eqb, length-append}
 use mathlib.Core.Option.{none, some}
 use mathlib.Core.Logic.{dite}
 use native.Mathlib.Decide.{ℕ_discrete}
@@ -8,12 +8,14 @@ use Rattle.atomic_table.specs.Table.{keeps, step, stepped, Allows}
 use Rattle.atomic_table.proofs.Lists.{at_set}
 use Rattle.lw_latch.specs.declared.device_view.DeviceView.{DeviceView}
 use Rattle.lw_base.specs.Totals.{total}
-use Rattle.lw_latch.specs.DeviceWord.{seats, given_count, backing_count, begun_count, fired_count, open_count, times, times_given, device_word, Suits, Tied, shut_bit, view_given, view_not_given, view_visiting, view_usable, view_found, Gives, TakesBack, Holds, LetsGo, Releases, Unholds, LooksAtShut}
+use Rattle.lw_latch.specs.OwnLine.{latch_word, alone}
+use Rattle.lw_latch.specs.DeviceWord.{most_gives, open_unit, giving, seats, given_count, backing_count, begun_count, fired_count, open_count, times, times_given, device_word, Suits, Tied, shut_bit, word_given, view_given, view_not_given, view_visiting, view_usable, view_found, Sat, Gives, TakesBack, Holds, LetsGo, Releases, Unholds, LooksAtShut}
 use Rattle.lw_base.proofs.Totals.{total_set, at_le}
-use Rattle.lw_latch.proofs.DeviceMoves.{St, Sat, bounded, reads, moved}
+use Rattle.lw_latch.proofs.DeviceMoves.{St, bounded, reads, moved}
+use Rattle.lw_latch.proofs.DeviceTelling.{tells}
 
 -- what stands of a view whose calls and finds alone grow, where the latch is shut
-pub grown : (all shut : ℕ) (v : DeviceView) (g l f t n : ℕ) → Suits all shut v → shut ≢ 0 → v.gives ≤ g → g ≤ 274877906944
+pub grown : (all shut : ℕ) (v : DeviceView) (g l f t n : ℕ) → Suits all shut v → shut ≢ 0 → v.gives ≤ g → g ≤ most_gives
     → Suits all shut (record v { gives = g; looks = l; found = f; tries = t; seen = n })
 grown all shut v g l f t n s is_shut more few =
     record {
@@ -67,8 +69,8 @@ found_open all shut v l s some_seat =
 
 -- one more channel is given, of an open latch
 gives_one : (all : ℕ) (s : St) (id : ℕ) (v : DeviceView) (n m : ℕ) (c : List (ℕ × Unit {0})) → Tied all s → get_elem? s.views id ≡ some v
-    → total begun_count s.views ≡ 0 → 1 ≤ v.seats → v.channel ≡ 0 → v.gives < 274877906944 → n ≡ device_word s.views + 262145 → m ≡ total given_count s.views
-    → Tied all (stepped s 0 n id c (view_given m v) keeps)
+    → total begun_count s.views ≡ 0 → 1 ≤ v.seats → v.channel ≡ 0 → v.gives < most_gives → n ≡ device_word s.views + giving → m ≡ total given_count s.views
+    → Tied all (stepped s latch_word n id c (view_given m v) keeps)
 gives_one all s id v n m c h at unshut some_seat free room is next =
     let w : DeviceView = view_given m v in
     let vs : List DeviceView = set s.views id w in
@@ -89,7 +91,7 @@ gives_one all s id v n m c h at unshut some_seat free room is next =
     record {
       few = h.few;
       all_seats = omega arith;
-      word = ap (λ l. set l 0 n) h.word ∙ ap (λ k. k ∷ []) sum;
+      word = ap (λ l. set l latch_word n) h.word ∙ ap alone sum;
       one_begun = omega arith;
       settled = λ z. absurd (omega arith);
       before = λ z. absurd (omega arith);
@@ -123,38 +125,42 @@ gives_one all s id v n m c h at unshut some_seat free room is next =
     times_snoc k m (x ∷ xs) = let r = times_snoc k m xs in ((λ e. (let a = r.0 e in omega arith)), λ e. (let a = r.1 e in omega arith))
 
 pub gives : (all slots id : ℕ) (me : Sat) → 1 ≤ me.0.seats → me.0.channel ≡ 0 → me.0.backing ≡ 0 → me.0.gives < 2 ^ 38
-    → Allows (Tied all) slots id me 0 (λ n. (n + 262145) % 2 ^ 64) (Gives (step slots 0 262145 0 none) me)
+    → Allows (Tied all) slots id me latch_word (λ n. (n + giving) % 2 ^ 64) (Gives (step slots latch_word giving 0 none) me)
 gives all slots id me some_seat free idle room s h _ at small =
     let v = me.0 in
-    let n : ℕ = slice_index s.words 0 in
+    let n : ℕ = slice_index s.words latch_word in
     let r = reads all s h in
     let is = r.is in
     let bit = r.bit in
     let fits = r.fits in
     let f = h.each id v at in
-    let now : (n + 262145) % 18446744073709551616 ≡ n + 262145 = omega arith in
+    let now : (n + giving) % 2 ^ 64 ≡ n + giving = omega arith in
     dite (ℕ_discrete (shut_bit n) 0)
     (λ unshut. (
-      view_given (n / 262144) v,
+      view_given (word_given n) v,
       keeps,
       tt,
-      gives_one all s id v ((n + 262145) % 18446744073709551616) (n / 262144) me.1 h at (omega arith) some_seat free room (omega arith) (r.unshut (omega arith)),
-      ((λ _. (refl, (f.found_shut (omega arith), (let b = at_le begun_count s.views id v at in omega arith)), λ k l. (let z = h.none_else k (let g = r.unshut (omega arith) in omega arith) in let t = at_le (times_given k) s.views id v at in omega arith))), λ shut. absurd (shut unshut)),
+      gives_one all s id v ((n + giving) % 2 ^ 64) (word_given n) me.1 h at (omega arith) some_seat free room (omega arith) (r.unshut (omega arith)),
+      record {
+        given = λ _. (refl, (f.found_shut (omega arith), (let b = at_le begun_count s.views id v at in omega arith)), λ k l. (let z = h.none_else k (let g = r.unshut (omega arith) in omega arith) in let t = at_le (times_given k) s.views id v at in omega arith));
+        shut = λ not. absurd (not unshut);
+        all = λ stands. tells all s id v h at stands;
+      },
     ))
     (λ shut. (
       record (view_not_given v) { backing = 1 },
       keeps,
       tt,
-      moved all s id v (record (view_not_given v) { backing = 1 }) ((n + 262145) % 18446744073709551616) me.1 h at refl refl refl refl refl refl (omega arith) (λ _. (omega arith, refl))
+      moved all s id v (record (view_not_given v) { backing = 1 }) ((n + giving) % 2 ^ 64) me.1 h at refl refl refl refl refl refl (omega arith) (λ _. (omega arith, refl))
           (changed all (total begun_count s.views) (view_not_given v) v.channel v.visit 1 v.leaving (grown all (total begun_count s.views) v (v.gives + 1) v.looks (v.found + 1) v.tries v.seen f (λ z. shut (omega arith)) (omega arith) (omega arith)) (omega arith) f.one_visit (λ z. absurd (shut (omega arith)))),
-      ((λ unshut. absurd (shut unshut)), λ _. refl),
+      record { given = λ unshut. absurd (shut unshut); shut = λ _. refl; all = λ stands. tells all s id v h at stands },
     ))
 
 pub takes_back : (all slots id : ℕ) (me : Sat) → me.0.backing ≡ 1
-    → Allows (Tied all) slots id me 0 (λ n. (n + (2 ^ 64 - 262145)) % 2 ^ 64) (TakesBack (step slots 0 262145 0 none) me)
+    → Allows (Tied all) slots id me latch_word (λ n. (n + (2 ^ 64 - giving)) % 2 ^ 64) (TakesBack (step slots latch_word giving 0 none) me)
 takes_back all slots id me back s h _ at small =
     let v = me.0 in
-    let n : ℕ = slice_index s.words 0 in
+    let n : ℕ = slice_index s.words latch_word in
     let r = reads all s h in
     let is = r.is in
     let fits = r.fits in
@@ -164,16 +170,16 @@ takes_back all slots id me back s h _ at small =
       record v { backing = 0 },
       keeps,
       tt,
-      moved all s id v (record v { backing = 0 }) ((n + 18446744073709289471) % 18446744073709551616) me.1 h at refl refl refl refl refl refl (omega arith) (λ _. (omega arith, refl))
+      moved all s id v (record v { backing = 0 }) ((n + (2 ^ 64 - giving)) % 2 ^ 64) me.1 h at refl refl refl refl refl refl (omega arith) (λ _. (omega arith, refl))
           (changed all (total begun_count s.views) v v.channel v.visit 0 v.leaving f (let c = f.one_channel in omega arith) f.one_visit (λ z. (let b = f.backing_shut z in omega arith))),
       refl,
     )
 
 pub holds : (all slots id : ℕ) (me : Sat) → 1 ≤ me.0.seats → me.0.visit ≡ 0 → me.0.leaving ≡ 0
-    → Allows (Tied all) slots id me 0 (λ n. (n + 1) % 2 ^ 64) (Holds (step slots 0 1 0 none) me)
+    → Allows (Tied all) slots id me latch_word (λ n. (n + open_unit) % 2 ^ 64) (Holds (step slots latch_word open_unit 0 none) me)
 holds all slots id me some_seat free idle s h _ at small =
     let v = me.0 in
-    let n : ℕ = slice_index s.words 0 in
+    let n : ℕ = slice_index s.words latch_word in
     let r = reads all s h in
     let is = r.is in
     let bit = r.bit in
@@ -184,24 +190,24 @@ holds all slots id me some_seat free idle s h _ at small =
       view_visiting v,
       keeps,
       tt,
-      moved all s id v (view_visiting v) ((n + 1) % 18446744073709551616) me.1 h at refl refl refl refl refl refl (omega arith) (λ z. absurd (omega arith))
+      moved all s id v (view_visiting v) ((n + open_unit) % 2 ^ 64) me.1 h at refl refl refl refl refl refl (omega arith) (λ z. absurd (omega arith))
           (changed all (total begun_count s.views) (record v { opens = v.opens + 1 }) v.channel 1 v.backing v.leaving (found_open all (total begun_count s.views) v v.looks f some_seat) f.one_channel (omega arith) f.backing_shut),
-      ((λ _. (refl, (f.found_shut (omega arith), (let b = at_le begun_count s.views id v at in omega arith)))), λ shut. absurd (shut unshut)),
+      record { held = λ _. (refl, (f.found_shut (omega arith), (let b = at_le begun_count s.views id v at in omega arith))); shut = λ not. absurd (not unshut) },
     ))
     (λ shut. (
       record (view_found v) { leaving = 1 },
       keeps,
       tt,
-      moved all s id v (record (view_found v) { leaving = 1 }) ((n + 1) % 18446744073709551616) me.1 h at refl refl refl refl refl refl (omega arith) (λ _. (omega arith, refl))
+      moved all s id v (record (view_found v) { leaving = 1 }) ((n + open_unit) % 2 ^ 64) me.1 h at refl refl refl refl refl refl (omega arith) (λ _. (omega arith, refl))
           (changed all (total begun_count s.views) (view_found v) v.channel v.visit v.backing 1 (grown all (total begun_count s.views) v v.gives v.looks (v.found + 1) v.tries v.seen f (λ z. shut (omega arith)) (omega arith) f.few_gives) f.one_channel (omega arith) (λ z. absurd (shut (omega arith)))),
-      ((λ unshut. absurd (shut unshut)), λ _. refl),
+      record { held = λ unshut. absurd (shut unshut); shut = λ _. refl },
     ))
 
 pub lets_go : (all slots id : ℕ) (me : Sat) → me.0.leaving ≡ 1
-    → Allows (Tied all) slots id me 0 (λ n. (n + (2 ^ 64 - 1)) % 2 ^ 64) (LetsGo (step slots 0 1 0 none) me)
+    → Allows (Tied all) slots id me latch_word (λ n. (n + (2 ^ 64 - open_unit)) % 2 ^ 64) (LetsGo (step slots latch_word open_unit 0 none) me)
 lets_go all slots id me leaves s h _ at small =
     let v = me.0 in
-    let n : ℕ = slice_index s.words 0 in
+    let n : ℕ = slice_index s.words latch_word in
     let r = reads all s h in
     let is = r.is in
     let fits = r.fits in
@@ -210,16 +216,16 @@ lets_go all slots id me leaves s h _ at small =
       record v { leaving = 0 },
       keeps,
       tt,
-      moved all s id v (record v { leaving = 0 }) ((n + 18446744073709551615) % 18446744073709551616) me.1 h at refl refl refl refl refl refl (omega arith) (λ _. (omega arith, refl))
+      moved all s id v (record v { leaving = 0 }) ((n + (2 ^ 64 - open_unit)) % 2 ^ 64) me.1 h at refl refl refl refl refl refl (omega arith) (λ _. (omega arith, refl))
           (changed all (total begun_count s.views) v v.channel v.visit v.backing 0 f f.one_channel (let c = f.one_visit in omega arith) (λ z. (let b = f.backing_shut z in omega arith))),
       refl,
     )
 
 pub releases : (all slots id : ℕ) (me : Sat) → me.0.channel ≡ 1
-    → Allows (Tied all) slots id me 0 (λ n. (n + (2 ^ 64 - 1)) % 2 ^ 64) (Releases (step slots 0 1 0 none) me)
+    → Allows (Tied all) slots id me latch_word (λ n. (n + (2 ^ 64 - open_unit)) % 2 ^ 64) (Releases (step slots latch_word open_unit 0 none) me)
 releases all slots id me has s h _ at small =
     let v = me.0 in
-    let n : ℕ = slice_index s.words 0 in
+    let n : ℕ = slice_index s.words latch_word in
     let r = reads all s h in
     let is = r.is in
     let fits = r.fits in
@@ -228,16 +234,16 @@ releases all slots id me has s h _ at small =
       record v { channel = 0 },
       keeps,
       tt,
-      moved all s id v (record v { channel = 0 }) ((n + 18446744073709551615) % 18446744073709551616) me.1 h at refl refl refl refl refl refl (omega arith) (λ _. (omega arith, refl))
+      moved all s id v (record v { channel = 0 }) ((n + (2 ^ 64 - open_unit)) % 2 ^ 64) me.1 h at refl refl refl refl refl refl (omega arith) (λ _. (omega arith, refl))
           (changed all (total begun_count s.views) v 0 v.visit v.backing v.leaving f (let c = f.one_channel in omega arith) f.one_visit f.backing_shut),
       refl,
     )
 
 pub unholds : (all slots id : ℕ) (me : Sat) → me.0.visit ≡ 1
-    → Allows (Tied all) slots id me 0 (λ n. (n + (2 ^ 64 - 1)) % 2 ^ 64) (Unholds (step slots 0 1 0 none) me)
+    → Allows (Tied all) slots id me latch_word (λ n. (n + (2 ^ 64 - open_unit)) % 2 ^ 64) (Unholds (step slots latch_word open_unit 0 none) me)
 unholds all slots id me has s h _ at small =
     let v = me.0 in
-    let n : ℕ = slice_index s.words 0 in
+    let n : ℕ = slice_index s.words latch_word in
     let r = reads all s h in
     let is = r.is in
     let fits = r.fits in
@@ -246,15 +252,15 @@ unholds all slots id me has s h _ at small =
       record v { visit = 0 },
       keeps,
       tt,
-      moved all s id v (record v { visit = 0 }) ((n + 18446744073709551615) % 18446744073709551616) me.1 h at refl refl refl refl refl refl (omega arith) (λ _. (omega arith, refl))
+      moved all s id v (record v { visit = 0 }) ((n + (2 ^ 64 - open_unit)) % 2 ^ 64) me.1 h at refl refl refl refl refl refl (omega arith) (λ _. (omega arith, refl))
           (changed all (total begun_count s.views) v v.channel 0 v.backing v.leaving f f.one_channel (let c = f.one_visit in omega arith) f.backing_shut),
       refl,
     )
 
-pub looks : (all slots id : ℕ) (me : Sat) → 1 ≤ me.0.seats → Allows (Tied all) slots id me 0 (λ n. n) (LooksAtShut (step slots 0 0 0 none) me)
+pub looks : (all slots id : ℕ) (me : Sat) → 1 ≤ me.0.seats → Allows (Tied all) slots id me latch_word (λ n. n) (LooksAtShut (step slots latch_word 0 0 none) me)
 looks all slots id me some_seat s h _ at small =
     let v = me.0 in
-    let n : ℕ = slice_index s.words 0 in
+    let n : ℕ = slice_index s.words latch_word in
     let r = reads all s h in
     let is = r.is in
     let bit = r.bit in
@@ -266,7 +272,7 @@ looks all slots id me some_seat s h _ at small =
       tt,
       moved all s id v (view_usable v) n me.1 h at refl refl refl refl refl refl (omega arith) (λ z. absurd (omega arith))
           (found_open all (total begun_count s.views) v (v.looks + 1) f some_seat),
-      ((λ _. (refl, (f.found_shut (omega arith), (let b = at_le begun_count s.views id v at in omega arith)))), λ shut. absurd (shut unshut)),
+      record { usable = λ _. (refl, (f.found_shut (omega arith), (let b = at_le begun_count s.views id v at in omega arith))); shut = λ not. absurd (not unshut) },
     ))
     (λ shut. (
       record (view_found v) { looks = v.looks + 1 },
@@ -274,5 +280,5 @@ looks all slots id me some_seat s h _ at small =
       tt,
       moved all s id v (record (view_found v) { looks = v.looks + 1 }) n me.1 h at refl refl refl refl refl refl (omega arith) (λ _. (omega arith, refl))
           (grown all (total begun_count s.views) v v.gives (v.looks + 1) (v.found + 1) v.tries v.seen f (λ z. shut (omega arith)) (omega arith) f.few_gives),
-      ((λ unshut. absurd (shut unshut)), λ _. refl),
+      record { usable = λ unshut. absurd (shut unshut); shut = λ _. refl },
     ))

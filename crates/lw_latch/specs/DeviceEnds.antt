@@ -1,9 +1,11 @@
 -- What callers see of the seats of a device's latch.
-use Rattle.std.specs.Prelude.{◌≡◌, ◌⊎◌, ℕ, ◌+◌, ◌<◌, ◌≤◌, ◌==◌, if◌then◌else◌, List, length, slice_index_or, All, Any}
+use Rattle.std.specs.Prelude.{◌≡◌, ◌⊎◌, ℕ, ◌+◌, ◌<◌, ◌≤◌, ◌==◌, Bool, true, false, if◌then◌else◌, List, [], length, slice_index_or, All, Any}
 use Rattle.atomic_table.specs.Seated.{TableId}
+use Rattle.atomic_table.specs.declared.shared.Seat.{Seat}
 use Rattle.lw_latch.specs.declared.device_view.DeviceView.{DeviceView}
 use Rattle.lw_base.specs.Totals.{total}
-use Rattle.lw_latch.specs.DeviceWord.{idle_view, both_views, times, held_count}
+use Rattle.lw_latch.specs.OwnLine.{table_words}
+use Rattle.lw_latch.specs.DeviceWord.{above_all_given, idle_view, both_views, times, held_count}
 
 -- which latch, and how many seats it was made with
 pub record DeviceLatch : Type 0 where
@@ -17,6 +19,25 @@ pub record SeatEnd : Type 0 where
   pub number : ℕ
   pub began_by : ℕ
   pub view : DeviceView
+
+-- what a seat keeps between its calls: it is at the word of its table, holds no slot, takes nothing back, and keeps whether
+-- it or one that it took in began, and what was told then
+pub record IsDeviceSeat (table : TableId) (seat : Seat (Unit {0}) DeviceView) (began : Bool) (given : ℕ) : Type 0 where
+  pub same_table : seat.table_id ≡ table
+  pub words : seat.table_id.words ≡ table_words
+  pub no_slots : seat.me.1 ≡ []
+  pub some_seat : 1 ≤ seat.me.0.seats
+  pub no_backing : seat.me.0.backing ≡ 0
+  pub no_leaving : seat.me.0.leaving ≡ 0
+  pub not_begun : began ≡ false → seat.me.0.begun ≡ 0
+  pub has_begun : began ≡ true → 1 ≤ seat.me.0.begun
+  pub fired_begun : seat.me.0.fired ≤ seat.me.0.begun
+  pub count : given ≡ seat.me.0.count
+  pub few_given : given < above_all_given
+
+-- the seat stands for all of its latch: it has taken in all others
+abbrev pub HasAllSeats : SeatEnd → Type 0
+HasAllSeats e = e.view.seats ≡ e.latch.seats
 
 -- a seat of a new latch
 abbrev pub new_seat : DeviceLatch → ℕ → SeatEnd

@@ -1,11 +1,44 @@
 -- The word of a device's latch: bits 0 to 15 count the open channels and visits, bit 16 is the shut bit, bit 17 the fired
--- bit, and the bits above count the channels given.
+-- bit, and bits 18 to 63 count the channels given.
 use Rattle.std.specs.Prelude.{◌≡◌, ◌≢◌, ℕ, ◌+◌, ◌-◌, ◌*◌, ◌/◌, ◌%◌, ◌<◌, ◌≤◌, ◌==◌, if◌then◌else◌, List, [], ◌∷◌, ◌++◌, length}
 use mathlib.Core.Option.{some}
 use lib.ListN.{get_elem?}
 use Rattle.atomic_table.specs.Table.{State, Me, Step}
 use Rattle.lw_latch.specs.declared.device_view.DeviceView.{DeviceView}
 use Rattle.lw_base.specs.Totals.{total}
+use Rattle.lw_latch.specs.OwnLine.{alone}
+
+-- the most seats of a latch
+abbrev pub most_seats : ℕ
+most_seats = 127
+
+-- how often one seat calls `give` at most: 2^38
+abbrev pub most_gives : ℕ
+most_gives = 274877906944
+
+-- above every count of given channels that fits the word: 2^46
+abbrev pub above_all_given : ℕ
+above_all_given = 70368744177664
+
+-- what an open channel or visit adds to the word
+abbrev pub open_unit : ℕ
+open_unit = 1
+
+-- what the shut bit adds to it, above the 16 bits that count what is open: 2^16
+abbrev pub shut_unit : ℕ
+shut_unit = 65536
+
+-- what the fired bit adds to it: 2^17
+abbrev pub fired_unit : ℕ
+fired_unit = 131072
+
+-- what a channel that was given adds to it: 2^18
+abbrev pub given_unit : ℕ
+given_unit = 262144
+
+-- what a give adds to it: a channel, which is given and open
+abbrev pub giving : ℕ
+giving = given_unit + open_unit
 
 abbrev pub seats : DeviceView → ℕ
 seats v = v.seats
@@ -51,7 +84,7 @@ times_given k v = times k v.ordinals
 
 -- the word that the views make
 abbrev pub device_word : List DeviceView → ℕ
-device_word vs = total open_count vs + 65536 * total begun_count vs + 131072 * total fired_count vs + 262144 * (total given_count vs + total backing_count vs)
+device_word vs = open_unit * total open_count vs + shut_unit * total begun_count vs + fired_unit * total fired_count vs + given_unit * (total given_count vs + total backing_count vs)
 
 -- what the rule says of one view of a latch of so many seats, which `shut` of them have shut
 pub record Suits (all shut : ℕ) (v : DeviceView) : Type 0 where
@@ -59,9 +92,9 @@ pub record Suits (all shut : ℕ) (v : DeviceView) : Type 0 where
   -- a seat has at most one channel and one visit, or takes one back
   pub one_channel : v.channel + v.backing ≤ v.seats
   pub one_visit : v.visit + v.leaving ≤ v.seats
-  -- each seat calls `give` at most 2^38 times
-  pub few_gives : v.gives ≤ 274877906944
-  pub few_given : 1 ≤ v.seats → length v.ordinals + 274877906944 ≤ v.gives + 274877906944 * v.seats
+  -- each seat calls `give` so often at most
+  pub few_gives : v.gives ≤ most_gives
+  pub few_given : 1 ≤ v.seats → length v.ordinals + most_gives ≤ v.gives + most_gives * v.seats
   -- a view that was joined away has nothing
   pub none_given : v.seats ≡ 0 → (length v.ordinals ≡ 0) × (v.opens ≡ 0)
   -- who began alone keeps what was so then, and who fired began
@@ -75,9 +108,9 @@ pub record Suits (all shut : ℕ) (v : DeviceView) : Type 0 where
 -- the rule: the word is what the views make; the ordinals of the channels given are 0, 1, 2, .., each once; one seat at
 -- most shuts the latch; from then on nothing is given, and nobody finds it open; it fires once, with nothing open
 pub record Tied (all : ℕ) (s : State (Unit {0}) DeviceView) : Type 0 where
-  pub few : all ≤ 127
+  pub few : all ≤ most_seats
   pub all_seats : total seats s.views ≡ all
-  pub word : s.words ≡ device_word s.views ∷ []
+  pub word : s.words ≡ alone (device_word s.views)
   pub one_begun : total begun_count s.views ≤ 1
   pub settled : 1 ≤ total begun_count s.views → total given_count s.views ≡ total count s.views
   pub before : 1 ≤ total begun_count s.views → total opens s.views ≡ total opens_then s.views
@@ -129,11 +162,15 @@ both_views v w = record {
 
 -- 1 where the word has the shut bit, else 0
 abbrev pub shut_bit : ℕ → ℕ
-shut_bit word = word / 65536 % 2
+shut_bit word = word / shut_unit % 2
+
+-- how many channels a word counts as given
+abbrev pub word_given : ℕ → ℕ
+word_given word = word / given_unit
 
 -- the word of a shut latch that has not fired, with nothing open and so many given
 abbrev pub closing_word : ℕ → ℕ
-closing_word given = 65536 + 262144 * given
+closing_word given = shut_unit + given_unit * given
 
 -- What each call makes of a view.
 
@@ -171,49 +208,6 @@ view_tried seen v = record v { tries = v.tries + 1; seen = seen }
 abbrev pub KnowsOpen : DeviceView → Type 0
 KnowsOpen v = (v.found ≡ 0) × (v.begun ≡ 0)
 
--- a seat: its view, and the slots that it holds, none here
-abbrev Sat : Type 0
-Sat = Me (Unit {0}) DeviceView
-
--- What each kind of step tells, of the seat before it, the word that it found and the seat after it.
-
-abbrev pub Gives : Step (Unit {0}) → Sat → ℕ → Sat → Type 0
-Gives step old word new =
-    (shut_bit word ≡ 0 → (new ≡ (view_given (word / 262144) old.0, old.1)) × KnowsOpen old.0 × IsAbove (word / 262144) old.0.ordinals)
-    × (shut_bit word ≢ 0 → new ≡ (record (view_not_given old.0) { backing = 1 }, old.1))
-
-abbrev pub TakesBack : Step (Unit {0}) → Sat → ℕ → Sat → Type 0
-TakesBack step old word new = new ≡ (record old.0 { backing = 0 }, old.1)
-
-abbrev pub Holds : Step (Unit {0}) → Sat → ℕ → Sat → Type 0
-Holds step old word new =
-    (shut_bit word ≡ 0 → (new ≡ (view_visiting old.0, old.1)) × KnowsOpen old.0)
-    × (shut_bit word ≢ 0 → new ≡ (record (view_found old.0) { leaving = 1 }, old.1))
-
-abbrev pub LetsGo : Step (Unit {0}) → Sat → ℕ → Sat → Type 0
-LetsGo step old word new = new ≡ (record old.0 { leaving = 0 }, old.1)
-
-abbrev pub Releases : Step (Unit {0}) → Sat → ℕ → Sat → Type 0
-Releases step old word new = new ≡ (record old.0 { channel = 0 }, old.1)
-
-abbrev pub Unholds : Step (Unit {0}) → Sat → ℕ → Sat → Type 0
-Unholds step old word new = new ≡ (record old.0 { visit = 0 }, old.1)
-
-abbrev pub LooksAtShut : Step (Unit {0}) → Sat → ℕ → Sat → Type 0
-LooksAtShut step old word new =
-    (shut_bit word ≡ 0 → (new ≡ (view_usable old.0, old.1)) × KnowsOpen old.0)
-    × (shut_bit word ≢ 0 → new ≡ (record (view_found old.0) { looks = old.0.looks + 1 }, old.1))
-
-abbrev pub Begins : Step (Unit {0}) → Sat → ℕ → Sat → Type 0
-Begins step old word new =
-    (shut_bit word ≡ 0 → (often : ℕ) × (new ≡ (view_begun (word / 262144) often old.0, old.1)) × KnowsOpen old.0 × (given_count old.0 ≤ word / 262144) × (old.0.opens ≤ often) × IsAbove (word / 262144) old.0.ordinals)
-    × (shut_bit word ≢ 0 → new ≡ (view_found old.0, old.1))
-
-abbrev pub TriesToFire : Step (Unit {0}) → Sat → ℕ → Sat → Type 0
-TriesToFire step old word new =
-    (word ≡ step.first → (new ≡ (view_fired word old.0, old.1)) × (old.0.fired ≡ 0) × (held_count old.0 ≡ 0))
-    × (word ≢ step.first → new ≡ (view_tried word old.0, old.1))
-
 -- the ordinals are all numbers below how many there are, each once
 pub record AreOrdinals (ks : List ℕ) : Type 0 where
   pub once : (k : ℕ) → k < length ks → times k ks ≡ 1
@@ -232,8 +226,75 @@ pub record IsWhole (v : DeviceView) : Type 0 where
   pub fired : v.fired ≤ v.begun
   pub quiet : v.fired ≡ 1 → held_count v ≡ 0
 
--- a seat that stands for all learns that the word is its own, and what follows
-abbrev pub LearnsAll : Step (Unit {0}) → Sat → ℕ → Sat → Type 0
-LearnsAll step old word new =
-    (new ≡ old)
-    × (1 ≤ old.0.seats → old.0.seats ≡ old.0.all → (word ≡ device_word (old.0 ∷ [])) × (open_count old.0 < 65536) × IsWhole old.0)
+-- what the word says to a seat that stands for all: it is the seat's own
+pub record Tells (v : DeviceView) (word : ℕ) : Type 0 where
+  pub own : word ≡ device_word (v ∷ [])
+  pub few_open : open_count v < shut_unit
+  pub whole : IsWhole v
+
+abbrev pub StandsForAll : DeviceView → Type 0
+StandsForAll v = (1 ≤ v.seats) × (v.seats ≡ v.all)
+
+-- a seat: its view, and the slots that it holds, none here
+abbrev pub Sat : Type 0
+Sat = Me (Unit {0}) DeviceView
+
+abbrev pub view_of : Sat → DeviceView
+view_of seat = seat.0
+
+-- the seat with another view
+abbrev pub with_view : Sat → DeviceView → Sat
+with_view seat view = (view, seat.1)
+
+-- What each kind of step tells, of the seat before it, the word that it found and the seat after it.
+
+-- of an open latch a seat gets the channel whose ordinal is what the word counts as given; else it has to take its sum back
+pub record Gives (step : Step (Unit {0})) (old : Sat) (word : ℕ) (new : Sat) : Type 0 where
+  pub given : shut_bit word ≡ 0 → (new ≡ with_view old (view_given (word_given word) (view_of old))) × KnowsOpen (view_of old) × IsAbove (word_given word) (view_of old).ordinals
+  pub shut : shut_bit word ≢ 0 → new ≡ with_view old (record (view_not_given (view_of old)) { backing = 1 })
+  pub all : StandsForAll (view_of old) → Tells (view_of old) word
+
+abbrev pub TakesBack : Step (Unit {0}) → Sat → ℕ → Sat → Type 0
+TakesBack step old word new = new ≡ with_view old (record (view_of old) { backing = 0 })
+
+-- in an open latch a visit begins; else the seat has to take its count back
+pub record Holds (step : Step (Unit {0})) (old : Sat) (word : ℕ) (new : Sat) : Type 0 where
+  pub held : shut_bit word ≡ 0 → (new ≡ with_view old (view_visiting (view_of old))) × KnowsOpen (view_of old)
+  pub shut : shut_bit word ≢ 0 → new ≡ with_view old (record (view_found (view_of old)) { leaving = 1 })
+
+abbrev pub LetsGo : Step (Unit {0}) → Sat → ℕ → Sat → Type 0
+LetsGo step old word new = new ≡ with_view old (record (view_of old) { leaving = 0 })
+
+abbrev pub Releases : Step (Unit {0}) → Sat → ℕ → Sat → Type 0
+Releases step old word new = new ≡ with_view old (record (view_of old) { channel = 0 })
+
+abbrev pub Unholds : Step (Unit {0}) → Sat → ℕ → Sat → Type 0
+Unholds step old word new = new ≡ with_view old (record (view_of old) { visit = 0 })
+
+pub record LooksAtShut (step : Step (Unit {0})) (old : Sat) (word : ℕ) (new : Sat) : Type 0 where
+  pub usable : shut_bit word ≡ 0 → (new ≡ with_view old (view_usable (view_of old))) × KnowsOpen (view_of old)
+  pub shut : shut_bit word ≢ 0 → new ≡ with_view old (record (view_found (view_of old)) { looks = (view_of old).looks + 1 })
+
+-- the seat shut the latch, and keeps how many channels had been given then, and how often the latch had been found open
+pub record Began (old : Sat) (word : ℕ) (new : Sat) : Type 0 where
+  pub often : ℕ
+  pub seat : new ≡ with_view old (view_begun (word_given word) often (view_of old))
+  pub knew : KnowsOpen (view_of old)
+  pub own_given : given_count (view_of old) ≤ word_given word
+  pub own_opens : (view_of old).opens ≤ often
+  pub above : IsAbove (word_given word) (view_of old).ordinals
+
+pub record Begins (step : Step (Unit {0})) (old : Sat) (word : ℕ) (new : Sat) : Type 0 where
+  pub began : shut_bit word ≡ 0 → Began old word new
+  pub already : shut_bit word ≢ 0 → new ≡ with_view old (view_found (view_of old))
+  pub all : StandsForAll (view_of old) → Tells (view_of old) word
+
+-- the word is the one that was asked for, and the latch fires; or it is another, and that is noted
+pub record TriesToFire (step : Step (Unit {0})) (old : Sat) (word : ℕ) (new : Sat) : Type 0 where
+  pub fired : word ≡ step.first → (new ≡ with_view old (view_fired word (view_of old))) × ((view_of old).fired ≡ 0) × (held_count (view_of old) ≡ 0)
+  pub in_vain : word ≢ step.first → new ≡ with_view old (view_tried word (view_of old))
+  pub all : StandsForAll (view_of old) → Tells (view_of old) word
+
+pub record LearnsAll (step : Step (Unit {0})) (old : Sat) (word : ℕ) (new : Sat) : Type 0 where
+  pub same : new ≡ old
+  pub all : StandsForAll (view_of old) → Tells (view_of old) word

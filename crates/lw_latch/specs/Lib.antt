@@ -1,3 +1,4 @@
+pub mod OwnLine
 pub mod RingWord
 pub mod RingEnds
 pub mod DeviceWord

@@ -1,34 +1,24 @@
 //! The latch of a device: who holds a channel or has a visit, and that none is given once it is shut.
-ghost use Rattle.std.specs.Prelude.{◌≡◌, ◌≢◌, ℕ, ◌+◌, ◌-◌, ◌*◌, ◌^◌, ◌<◌, ◌≤◌, true, false, length, IfOk};
-ghost use Rattle.lw_latch.specs.DeviceWord.{first_view, idle_view, view_given, view_not_given, view_visiting, view_usable, view_found, view_begun, view_fired, view_tried, closing_word, KnowsOpen, IsAbove, IsWhole, held_count};
-ghost use Rattle.lw_latch.specs.DeviceEnds.{DeviceLatch, AreNewSeats, FiresOnlyWhatItBegan, MayBeTakenIn, new_seat, both_ends};
+ghost use Rattle.std.specs.Prelude.{◌≡◌, ◌≢◌, ℕ, ◌+◌, ◌-◌, ◌<◌, ◌≤◌, true, false, length, IfOk};
+ghost use Rattle.lw_latch.specs.DeviceWord.{most_seats, most_gives, idle_view, view_given, view_not_given, view_visiting, view_usable, view_found, view_begun, view_fired, view_tried, closing_word, KnowsOpen, IsAbove, IsWhole, held_count};
+ghost use Rattle.lw_latch.specs.DeviceEnds.{AreNewSeats, FiresOnlyWhatItBegan, HasAllSeats, MayBeTakenIn, new_seat, both_ends};
 
 use crate::device_view::{
     Beginning, DeviceSeats, DeviceTable, DeviceView, Giving, Holding, LearningAll, LettingGo,
     LookingAtShut, Releasing, TakingBack, TryingToFire, Unholding,
 };
+use crate::device_word::{FIRED, GIVEN, OPEN, SHUT};
+use crate::own_line::{WORD, WORDS};
 use atomic_table::Seat;
 use lw_base::NoMemory;
 use std::alloc::Global;
 use std::marker::Model;
 use std::sync::Arc;
 
-/// One open channel or visit, in the bits below the shut bit.
-const OPEN: u64 = 1;
-
-/// The shut bit.
-const SHUT: u64 = 65_536;
-
-/// The fired bit.
-const FIRED: u64 = 131_072;
-
-/// One channel given, in the bits above the fired bit.
-const GIVEN: u64 = 262_144;
-
 /// What `give` found.
 #[derive(Clone, Copy, PartialEq, Eq, Debug)]
 pub enum Give {
-    /// The latch was open. The seat holds the channel of this ordinal: so many were given before it.
+    /// The latch was open. The seat holds the channel of this ordinal.
     Given { ordinal: u64 },
     /// The latch was shut. The seat holds no channel.
     Shut,
@@ -37,7 +27,9 @@ pub enum Give {
 /// What `look` found.
 #[derive(Clone, Copy, PartialEq, Eq, Debug)]
 pub enum Look {
+    /// The latch was open.
     Usable,
+    /// The latch was shut.
     Shut,
 }
 
@@ -53,7 +45,7 @@ pub enum Hold {
 /// What `shut` found.
 #[derive(Clone, Copy, PartialEq, Eq, Debug)]
 pub enum Shutting {
-    /// The latch was open. This seat has shut it, after so many channels were given.
+    /// The latch was open. This seat has shut it, and so many channels were given.
     Began { given: u64 },
     /// The latch was shut before.
     Already,
@@ -62,9 +54,9 @@ pub enum Shutting {
 /// What `fire` found.
 #[derive(Clone, Copy, PartialEq, Eq, Debug)]
 pub enum Firing {
-    /// Nothing was open. The latch has fired.
+    /// The latch was shut and had not fired, and nothing was open. It has fired.
     Fired,
-    /// The word was `seen`: something was open, or it had fired before.
+    /// The word, as `device_word` has it, was `seen`: another one.
     NotYet { seen: u64 },
 }
 
@@ -92,8 +84,7 @@ pub struct DeviceSeat {
 }
 
 impl Model for DeviceSeat {
-    ghost use Rattle.lw_latch.specs.DeviceEnds.{SeatEnd};
-    ghost use Rattle.std.specs.Prelude.{◌≡◌, ◌≤◌, ◌<◌, ◌^◌, true, false, []};
+    ghost use Rattle.lw_latch.specs.DeviceEnds.{SeatEnd, IsDeviceSeat};
     ghost use Rattle.std.specs.Arc.{arc_value};
 
     ghost Value = { SeatEnd };
@@ -105,53 +96,46 @@ impl Model for DeviceSeat {
       view = s.seat.me.0;
     } };
 
-    ghost invariant = { λ s.
-        (s.seat.table_id ≡ (arc_value s.table).shared.table_id)
-        × (s.seat.table_id.words ≡ 1)
-        × (s.seat.me.1 ≡ [])
-        × (1 ≤ s.seat.me.0.seats)
-        × (s.seat.me.0.backing ≡ 0)
-        × (s.seat.me.0.leaving ≡ 0)
-        × (s.began ≡ false → s.seat.me.0.begun ≡ 0)
-        × (s.began ≡ true → 1 ≤ s.seat.me.0.begun)
-        × (s.seat.me.0.fired ≤ s.seat.me.0.begun)
-        × (s.given ≡ s.seat.me.0.count)
-        × (s.given < 2 ^ 46) };
+    ghost invariant = { λ s. IsDeviceSeat (arc_value s.table).shared.table_id s.seat s.began s.given };
 }
 
 impl DeviceSeat {
-    /// Gets a channel, in one step, unless the latch is shut. A seat has at most one.
+    /// Gets a channel, unless the latch is shut. A seat has at most one, and calls this at most 2^38 times.
     ///
-    /// The channel's ordinal is the number of channels that were given before it, over all seats. A seat that finds the
-    /// latch shut takes its sum back in a second step; between the two it counts as open, but a shut latch gives nothing.
-    /// `Given` comes only where this call's own step found the latch open, and so never once a `shut` has answered `Began`;
-    /// `Shut` comes only where that step found the shut bit.
+    /// `Given`: the seat holds the channel, and before had neither found the latch shut nor shut it. The ordinal is above all
+    /// that the seat was given; where it stands for all seats, it is how many were given. `Shut`: the seat holds no channel,
+    /// and keeps that it found the latch shut. What the answers to all seats come to, `learn` says.
     pub fn give(&mut self) -> Give
         requires channel { self.old.view.channel ≡ 0 }
-        requires room { self.old.view.gives < 2 ^ 38 }
+        requires room { self.old.view.gives < most_gives }
         ensures given { (ordinal : ℕ) → result ≡ Give.Given ordinal →
             (self.new ≡ record self.old { view = view_given ordinal self.old.view })
             × KnowsOpen self.old.view
             × IsAbove ordinal self.old.view.ordinals }
+        ensures all_given { (ordinal : ℕ) → result ≡ Give.Given ordinal → HasAllSeats self.old →
+            ordinal ≡ length self.old.view.ordinals }
         ensures shut { result ≡ Give.Shut → self.new ≡ record self.old { view = view_not_given self.old.view } }
     {
         let before = self
             .table
             .shared
-            .fetch_add::<Giving>(&mut self.seat, 0, GIVEN + OPEN);
+            .fetch_add::<Giving>(&mut self.seat, WORD, GIVEN + OPEN);
         if before / SHUT % 2 == 0 {
             return Give::Given {
                 ordinal: before / GIVEN,
             };
         }
+        // Until this second step the seat counts as open, and as given a channel; but a shut latch gives none.
         self.table
             .shared
-            .fetch_sub::<TakingBack>(&mut self.seat, 0, GIVEN + OPEN);
+            .fetch_sub::<TakingBack>(&mut self.seat, WORD, GIVEN + OPEN);
         Give::Shut
     }
 
-    /// Whether the latch is shut. It is one load, and the answer is what it found: `Usable` never comes once a `shut` has
-    /// answered `Began`.
+    /// Whether the latch is shut.
+    ///
+    /// `Usable`: the seat before had neither found the latch shut nor shut it. `Shut`: the seat keeps that it found the latch
+    /// shut.
     pub fn look(&mut self) -> Look
         ensures usable { result ≡ Look.Usable →
             (self.new ≡ record self.old { view = view_usable self.old.view })
@@ -162,7 +146,10 @@ impl DeviceSeat {
                   record (view_found self.old.view) { looks = self.old.view.looks + 1 };
             } }
     {
-        let found = self.table.shared.load::<LookingAtShut>(&mut self.seat, 0);
+        let found = self
+            .table
+            .shared
+            .load::<LookingAtShut>(&mut self.seat, WORD);
         if found / SHUT % 2 == 0 {
             Look::Usable
         } else {
@@ -170,11 +157,10 @@ impl DeviceSeat {
         }
     }
 
-    /// Begins a visit, in one step, unless the latch is shut. A seat has at most one.
+    /// Begins a visit, unless the latch is shut. A seat has at most one.
     ///
-    /// A seat that finds the latch shut takes its count back in a second step. `Held` comes only where this call's own step
-    /// found the latch open, and so never once a `shut` has answered `Began`; `Shut` comes only where that step found the
-    /// shut bit.
+    /// `Held`: the seat has the visit, and before had neither found the latch shut nor shut it. `Shut`: the seat has no visit,
+    /// and keeps that it found the latch shut.
     pub fn hold(&mut self) -> Hold
         requires { self.old.view.visit ≡ 0 }
         ensures held { result ≡ Hold.Held →
@@ -184,41 +170,44 @@ impl DeviceSeat {
         let found = self
             .table
             .shared
-            .fetch_add::<Holding>(&mut self.seat, 0, OPEN);
+            .fetch_add::<Holding>(&mut self.seat, WORD, OPEN);
         if found / SHUT % 2 == 0 {
             return Hold::Held;
         }
+        // Until this second step the seat counts as open, in a latch that stays shut.
         self.table
             .shared
-            .fetch_sub::<LettingGo>(&mut self.seat, 0, OPEN);
+            .fetch_sub::<LettingGo>(&mut self.seat, WORD, OPEN);
         Hold::Shut
     }
 
-    /// Gives the seat's channel back, in one step.
+    /// Gives the seat's channel back.
     pub fn release(&mut self)
         requires { self.old.view.channel ≡ 1 }
         ensures { self.new ≡ record self.old { view = record self.old.view { channel = 0 } } }
     {
         self.table
             .shared
-            .fetch_sub::<Releasing>(&mut self.seat, 0, OPEN);
+            .fetch_sub::<Releasing>(&mut self.seat, WORD, OPEN);
     }
 
-    /// Ends the seat's visit, in one step.
+    /// Ends the seat's visit.
     pub fn unhold(&mut self)
         requires { self.old.view.visit ≡ 1 }
         ensures { self.new ≡ record self.old { view = record self.old.view { visit = 0 } } }
     {
         self.table
             .shared
-            .fetch_sub::<Unholding>(&mut self.seat, 0, OPEN);
+            .fetch_sub::<Unholding>(&mut self.seat, WORD, OPEN);
     }
 
-    /// Shuts the latch, in one step. From then on no seat is given a channel, no visit begins, and no look finds it usable:
-    /// what all seats were given, and how often they found the latch open, stays what it was at this step.
+    /// Shuts the latch, unless it is shut.
     ///
-    /// `Already` comes exactly where the word found was shut. A seat that knows the latch to be shut, by its own calls or
-    /// by those of a seat that it took in, is never told `Began`.
+    /// `Began`: this seat has shut it, and keeps how many channels had been given and how often the latch had been found open.
+    /// Before, it had neither found the latch shut nor shut it, by its own calls or by those of a seat that it took in. `given`
+    /// is above every ordinal that it was given and no less than their number; where it stands for all seats, it is that
+    /// number. `Already`: the seat keeps that it found the latch shut. That nothing is given from then on, and no seat finds
+    /// the latch open, `learn` says.
     pub fn shut(&mut self) -> Shutting
         ensures began { (given : ℕ) → result ≡ Shutting.Began given →
             (opens : ℕ)
@@ -230,12 +219,14 @@ impl DeviceSeat {
             × (length self.old.view.ordinals ≤ given)
             × (self.old.view.opens ≤ opens)
             × IsAbove given self.old.view.ordinals }
+        ensures all_given { (given : ℕ) → result ≡ Shutting.Began given → HasAllSeats self.old →
+            given ≡ length self.old.view.ordinals }
         ensures already { result ≡ Shutting.Already → self.new ≡ record self.old { view = view_found self.old.view } }
     {
         let found = self
             .table
             .shared
-            .fetch_or::<Beginning>(&mut self.seat, 0, SHUT);
+            .fetch_or::<Beginning>(&mut self.seat, WORD, SHUT);
         if found / SHUT % 2 != 0 {
             return Shutting::Already;
         }
@@ -245,10 +236,11 @@ impl DeviceSeat {
         Shutting::Began { given: self.given }
     }
 
-    /// Fires, in one step, if nothing is open. Only the seat whose own `shut` answered `Began` may call it.
+    /// Fires, if nothing is open. Only a seat whose own `shut` answered `Began` may call it.
     ///
-    /// It answers `Fired` exactly where the word was shut and not fired, with nothing open and the count that `shut`
-    /// told, and so once at most. Else `NotYet` carries the word that was found.
+    /// `Fired` comes exactly where the word that was found is that of a shut latch which has not fired, with nothing open and
+    /// as many given as `shut` told; the seat keeps that word, and before had not fired. `NotYet` carries the word that was
+    /// found, and the seat keeps it; where the seat stands for all, it has a channel or a visit, or has fired.
     pub fn fire(&mut self) -> Firing
         requires { (1 ≤ self.old.view.begun) × (self.old.began_by ≡ self.old.number) }
         ensures fired { result ≡ Firing.Fired →
@@ -258,12 +250,14 @@ impl DeviceSeat {
         ensures not_yet { (seen : ℕ) → result ≡ Firing.NotYet seen →
             (self.new ≡ record self.old { view = view_tried seen self.old.view })
             × (seen ≢ closing_word self.old.view.count) }
+        ensures all_held { (seen : ℕ) → result ≡ Firing.NotYet seen → HasAllSeats self.old →
+            1 ≤ held_count self.old.view + self.old.view.fired }
     {
         let closing = SHUT + GIVEN * self.given;
         let seen = self
             .table
             .shared
-            .compare_exchange::<TryingToFire>(&mut self.seat, 0, closing, closing + FIRED);
+            .compare_exchange::<TryingToFire>(&mut self.seat, WORD, closing, closing + FIRED);
         if seen == closing {
             Firing::Fired
         } else {
@@ -307,20 +301,20 @@ impl DeviceSeat {
         }
     }
 
-    /// What came of the device, of a seat that stands for all. It is one load.
+    /// What came of the device, of a seat that stands for all.
     ///
-    /// The ordinals that all seats were given are the numbers below their count, each once. Where a seat found the latch
-    /// shut, one began; that one was told the count, and from then on nothing was given and no seat found the latch open.
-    /// Where it has fired, nothing is open.
+    /// The ordinals that all seats were given are the numbers below their count, each once. At most one seat began; where a
+    /// seat found the latch shut, one did. It was told how many were given, and from then on nothing was given and no seat
+    /// found the latch open. It fired at most once, where a seat began; where it has fired, nothing is open.
     pub fn learn(&mut self) -> DeviceTotals
-        requires { self.old.view.seats ≡ self.old.latch.seats }
+        requires { HasAllSeats self.old }
         ensures same { self.new ≡ self.old }
         ensures given { result.given ≡ length self.old.view.ordinals }
         ensures began { result.began_by ≡ self.old.began_by }
         ensures fired { (result.fired ≡ true → self.old.view.fired ≡ 1) × (result.fired ≡ false → self.old.view.fired ≡ 0) }
         ensures whole { IsWhole self.old.view }
     {
-        let word = self.table.shared.load::<LearningAll>(&mut self.seat, 0);
+        let word = self.table.shared.load::<LearningAll>(&mut self.seat, WORD);
         DeviceTotals {
             given: word / GIVEN,
             began_by: self.began_by,
@@ -351,11 +345,11 @@ impl DeviceSeat {
 
 /// A new latch with 1 to 127 seats, by their numbers: it is open, and nothing was given.
 pub fn device_latch(alloc: Global, seats: u32) -> Result<Vec<DeviceSeat>, NoMemory>
-    requires { (1 ≤ seats) × (seats ≤ 127) }
+    requires { (1 ≤ seats) × (seats ≤ most_seats) }
     ensures { IfOk result (λ v. AreNewSeats seats v.items) }
 {
     let last = seats - 1;
-    let (table, seat) = DeviceTable::of_words(alloc, &[0], &seats)?;
+    let (table, seat) = DeviceTable::of_words(alloc, &[0; WORDS], &seats)?;
     let mut rest = DeviceSeat {
         table: Arc::new(alloc, table)?,
         seat,

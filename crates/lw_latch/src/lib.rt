@@ -11,6 +11,8 @@
 
 mod device;
 mod device_view;
+pub mod device_word;
+pub mod own_line;
 mod ring;
 mod ring_view;
 
