@@ -17,7 +17,7 @@ app_log = app_log_of (moved_app)
     (done_of 1 0 (idle ∷ []) ∷ [])
     ([] ∷ [] ∷ [])
     ((2, plain 0 0 what.Stop) ∷ [])
-    (1 ∷ [])
+    (2 ∷ [])
     (unregistered 0 0 ∷ [])
 
 abbrev mover_log : Log

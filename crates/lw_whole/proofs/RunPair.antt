@@ -75,7 +75,7 @@ app_log = app_log_of (pair_app)
     (done_of 2 0 (idle ∷ given (0 ∷ []) ∷ []) ∷ done_of 1 0 (given (0 ∷ []) ∷ given (1 ∷ []) ∷ []) ∷ [])
     ([] ∷ [] ∷ [] ∷ [] ∷ [])
     ((3, plain 0 0 what.Stop) ∷ (4, plain 0 0 what.Stop) ∷ [])
-    (2 ∷ 2 ∷ [])
+    (4 ∷ 4 ∷ [])
     (unregistered 1 0 ∷ unregistered 2 0 ∷ [])
 
 abbrev first_log : Log

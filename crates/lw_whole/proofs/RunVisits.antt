@@ -19,7 +19,7 @@ app_log = app_log_of (rounds_app)
     (done_of 1 0 (idle ∷ []) ∷ letter 2 0 (what.Visit 2 1 0) (marked ([])) ∷ letter 3 0 (what.Cast 3 0) (reached ([])) ∷ done_of 3 1 (idle ∷ []) ∷ done_of 2 1 (given (0 ∷ []) ∷ []) ∷ [])
     ([] ∷ ((2, letter 0 0 (what.Visit 2 1 0) (marked ([]))) ∷ []) ∷ ((2, letter 0 1 (what.Cast 3 0) (reached (0 ∷ []))) ∷ []) ∷ [] ∷ [] ∷ [] ∷ [])
     ((4, plain 0 0 what.Stop) ∷ [])
-    (1 ∷ [])
+    (6 ∷ [])
     (unregistered 1 0 ∷ [])
 
 abbrev idler_log : Log
