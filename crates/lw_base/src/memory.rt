@@ -165,6 +165,7 @@ impl Sink for MemSink {
         ensures fault { OnErr result (self.new.faults ≡ counted self.old.faults) }
         ensures call { self.new.calls ≡ counted self.old.calls }
         ensures kept { (self.new.piece ≡ self.old.piece) × (self.new.fails ≡ self.old.fails) }
+        ensures room { vec_capacity self.old.bytes ≤ vec_capacity self.new.bytes }
     {
         let fails = fails_now(&mut self.calls, &self.fails);
         let room = self.bytes.capacity() - self.bytes.len();
@@ -181,7 +182,8 @@ impl Sink for MemSink {
 // Appends bytes that there is room for.
 fn append(bytes: &mut Vec<u8>, piece: &[u8])
     requires { vec_len bytes.old + length piece.now ≤ vec_capacity bytes.old }
-    ensures { bytes.new.items ≡ bytes.old.items ++ piece.now }
+    ensures appended { bytes.new.items ≡ bytes.old.items ++ piece.now }
+    ensures room { vec_capacity bytes.old ≤ vec_capacity bytes.new }
 {
     if bytes.extend_from_slice(piece).is_err() {
         unreachable!()
