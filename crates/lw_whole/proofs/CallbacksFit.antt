@@ -41,7 +41,7 @@ last_too q (suc k) [] later e = refl
 last_too q zero (y ∷ done) later e = (and_parts (list_all q (y ∷ done)) (list_all q later) (sym (list_all-append q (y ∷ done) later) ∙ e)).0
 last_too q (suc k) (y ∷ done) later e = last_too q k done later e
 
-both_parts : (k : ℕ) (xs : List Step) → take k xs ++ drop k xs ≡ xs
+pub both_parts : (k : ℕ) (xs : List Step) → take k xs ++ drop k xs ≡ xs
 both_parts zero [] = refl
 both_parts (suc k) [] = refl
 both_parts zero (x ∷ xs) = refl
@@ -53,7 +53,7 @@ part_of q (suc k) [] e = refl
 part_of q zero (x ∷ xs) e = e
 part_of q (suc k) (x ∷ xs) e = part_of q k xs (and_parts (q x) (list_all q xs) e).1
 
-any_first : (p : Step → Bool) (xs ys : List Step) → list_any p xs ≡ true → list_any p (xs ++ ys) ≡ true
+pub any_first : (p : Step → Bool) (xs ys : List Step) → list_any p xs ≡ true → list_any p (xs ++ ys) ≡ true
 any_first p [] ys e = absurd (false≢true e)
 any_first p (x ∷ xs) ys e = at (p x) e (λ f. any_first p xs ys f)
   where
@@ -149,7 +149,7 @@ later_none a (step.Did i x ∷ ys) h = (lt-leb x.at a (omega (arith, h.0)), late
 later_none a (step.Called i x ∷ ys) h = later_none a ys h.1
 later_none a (step.Ran i m ∷ ys) h = (le-ltb i a (omega (arith, h.0)), later_none a ys h.1)
 
-zip_get : (xs : List ℕ) (ys : List Called) (i : ℕ) (c : Called) → length xs ≡ length ys → slice_get ys i ≡ Some c → (k : ℕ) × (slice_get (zip xs ys) i ≡ Some (k, c))
+pub zip_get : (xs : List ℕ) (ys : List Called) (i : ℕ) (c : Called) → length xs ≡ length ys → slice_get ys i ≡ Some c → (k : ℕ) × (slice_get (zip xs ys) i ≡ Some (k, c))
 zip_get xs [] i c e f = cc
 zip_get [] (y ∷ ys) i c e f = absurd (omega (arith, e))
 zip_get (x ∷ xs) (y ∷ ys) zero c e f = (x, ap (λ (o : Option Called). elim o as (λ z. Option (ℕ × Called)) [ None ↦ None | Some z ↦ Some (x, z) ]) f)

@@ -2,7 +2,7 @@
 use Rattle.std.proofs.Common.{◌≡◌, ℕ, zero, suc, ◌+◌, ◌<◌, ◌≤◌, ◌==◌, nat_lt, nat_le, Bool, true, false, ◌&&◌, ◌||◌, not, List, [], ◌∷◌, map, filter_map, length, count_by, refl, sym, subst, ap, ◌∙◌, arith, inl, inr}
 use Rattle.std.specs.Prelude.{slice_index_or, Any, if◌then◌else◌}
 use Rattle.std.specs.List.{list_all, list_any, range_with_len}
-use Rattle.std.proofs.lemmas.Bool.{cases_eq, eqb-true, and_parts, false≢true, ltb-true, ltb-false, leb-true, eq-eqb, ne_eqb}
+use Rattle.std.proofs.lemmas.Bool.{cases_eq, eqb-true, and_parts, false≢true, ltb-true, ltb-false, leb-true, ne_eqb}
 use Rattle.lw_base.specs.Letters.{sent_by, Names}
 use Rattle.lw_base.specs.Totals.{total}
 use Rattle.lw_model.specs.declared.script.Script.{Script}
@@ -110,22 +110,18 @@ rings_from logs e f g = record {
 
 -- a note of a row that found nothing shut and began nothing
 abbrev pub is_sound : Note → ℕ → Bool → Bool
-is_sound n t refused = (not refused || nat_le 1 n.found) && (not (n.begun == 0) || n.count == 0) && (n.begun == 0 || n.began_by == t) && nat_le n.fired n.begun
+is_sound n t refused = (not refused || nat_le 1 n.found) && (n.begun == 0 || n.began_by == t)
 
 pub note_from : (s : Script) (t d : ℕ) (l : Log) (n : Note) → n.ordinals ≡ filter_map (ordinal_given (is_on s t d)) (steps l) → filter_map (count_begun (is_on s t d)) (steps l) ≡ begun_in n
     → count_by (λ x. x.device == d) l.lines.called ≡ n.fired → is_sound n t (list_any (says (is_on s t d) is_refusal) (steps l)) ≡ true → NoteFits s t d l n
 note_from s t d l n e f g h =
-    let a = and_parts ((not (list_any (says (is_on s t d) is_refusal) (steps l)) || nat_le 1 n.found) && (not (n.begun == 0) || n.count == 0) && (n.begun == 0 || n.began_by == t)) (nat_le n.fired n.begun) h in
-    let b = and_parts ((not (list_any (says (is_on s t d) is_refusal) (steps l)) || nat_le 1 n.found) && (not (n.begun == 0) || n.count == 0)) (n.begun == 0 || n.began_by == t) a.0 in
-    let c = and_parts (not (list_any (says (is_on s t d) is_refusal) (steps l)) || nat_le 1 n.found) (not (n.begun == 0) || n.count == 0) b.0 in
+    let c = and_parts (not (list_any (says (is_on s t d) is_refusal) (steps l)) || nat_le 1 n.found) (n.begun == 0 || n.began_by == t) h in
     record {
       ordinals = e;
       found = λ is. leb-true 1 n.found (if_true (list_any (says (is_on s t d) is_refusal) (steps l)) (nat_le 1 n.found) is c.0);
       begun = f;
-      counts = λ is. eqb-true n.count 0 (if_true (n.begun == 0) (n.count == 0) (eq-eqb n.begun 0 is) c.1);
-      began_by = λ some. eqb-true n.began_by t (if_false (n.begun == 0) (n.began_by == t) (ne_eqb n.begun 0 (λ is. omega (arith, some, is))) b.1);
+      began_by = λ some. eqb-true n.began_by t (if_false (n.begun == 0) (n.began_by == t) (ne_eqb n.begun 0 (λ is. omega (arith, some, is))) c.1);
       fired = g;
-      only_begun = leb-true n.fired n.begun a.1;
     }
   where
     if_true : (p q : Bool) → p ≡ true → (not p || q) ≡ true → q ≡ true

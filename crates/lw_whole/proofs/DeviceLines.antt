@@ -1,8 +1,12 @@
 -- What all threads list of a device, from what their own rows keep.
-use Rattle.std.proofs.Common.{◌≡◌, ℕ, ◌+◌, ◌<◌, ◌==◌, Bool, true, false, cond, List, [], ◌∷◌, ◌++◌, map, filter_map, length, Option, Some, None, count_by, refl, sym, ap, ap₂, ◌∙◌, arith}
-use Rattle.std.specs.Prelude.{if◌then◌else◌}
-use Rattle.std.specs.List.{flat_map, AllByRecursion, cons_option, enumerate_from, range_with_len}
-use Rattle.std.proofs.lemmas.Bool.{eq-eqb, ne_eqb}
+use Rattle.lw_whole.proofs.CallbacksFit.{zip_get, both_parts, any_first}
+use Rattle.lw_whole.specs.Lines.{made_before, made_behind, callback_stood}
+use Rattle.lw_model.proofs.Passing.{item_passes}
+use Rattle.lw_model.specs.declared.script.Script.{Script}
+use Rattle.std.proofs.Common.{◌≡◌, ◌≤◌, suc, ℕ, ◌+◌, ◌<◌, ◌==◌, Bool, true, false, cond, List, [], ◌∷◌, ◌++◌, map, filter_map, length, Option, Some, None, count_by, refl, sym, ap, ap₂, ◌∙◌, arith, ◌&&◌, ◌||◌, slice_get, take, drop, reverse, zip, inl, inr, subst}
+use Rattle.std.specs.Prelude.{if◌then◌else◌, is_none}
+use Rattle.std.specs.List.{flat_map, AllByRecursion, cons_option, enumerate_from, range_with_len, list_all, list_any}
+use Rattle.std.proofs.lemmas.Bool.{eq-eqb, ne_eqb, and_parts, eqb-true, false≢true, cases_eq}
 use Rattle.std.proofs.lemmas.List.Sums.{sum_by-cons}
 use Rattle.lw_base.specs.declared.message.Tag.{Tag}
 use Rattle.lw_model.specs.declared.record.Record.{Record}
@@ -15,17 +19,17 @@ use Rattle.lw_model.specs.declared.step.Step.{Step}
 use Rattle.lw_model.specs.declared.step.Step.TheVariants as step
 use Rattle.lw_model.specs.Threads.{thread_count, is_on}
 use Rattle.lw_model.specs.OwnOrder.{own_order, own_order_of}
-use Rattle.lw_model.specs.Holding.{ordinal_given}
-use Rattle.lw_model.specs.Devices.{over_steps, ordinal_on, began_on, called_on}
+use Rattle.lw_model.specs.Holding.{ordinal_given, says, held}
+use Rattle.lw_model.specs.Devices.{over_steps, ordinal_on, began_on, called_on, is_began}
 use Rattle.lw_model.proofs.Callbacks.{without}
 use Rattle.lw_model.proofs.Growth.{dids, calleds, rans}
 use Rattle.lw_whole.specs.Letters.{Note}
 use Rattle.lw_whole.specs.Logs.{Log, steps}
 use Rattle.lw_whole.specs.Notes.{count_begun, begun_in, times}
 use Rattle.lw_whole.specs.WholeRun.{IsWholeRun}
-use Rattle.lw_whole.proofs.Access.{of_log, log_of}
+use Rattle.lw_whole.proofs.Access.{of_log, log_of, ended}
 use Rattle.lw_whole.proofs.Steps.{steps_are}
-use Rattle.lw_whole.proofs.Flow.{sum_below, sum_same}
+use Rattle.lw_whole.proofs.Flow.{sum_below, sum_same, sum_has}
 use Rattle.lw_whole.proofs.TokenRuns.{length_append, count_of, count_in_order, count_of-append}
 use Rattle.lw_whole.proofs.TokenFlow.{sum_only}
 use Rattle.lw_whole.proofs.Ranges.{flat_same, flat_sum, flat_only}
@@ -104,6 +108,44 @@ calls_counted d x = omega (
   no_rans d 0 x.ran,
   all_calls d 0 x.called,
 )
+
+called_one : (d : ℕ) (cs : List Called) → 1 ≤ count_by (λ x. x.device == d) cs → (i : ℕ) × (c : Called) × (slice_get cs i ≡ Some c) × (c.device ≡ d)
+called_one d [] some = absurd (omega (arith, some))
+called_one d (c ∷ cs) some = at (c.device == d) refl (omega (arith, some, sum_by-cons (λ (x : Called). cond (x.device == d) 1 0) c cs)) (λ more. called_one d cs more)
+  where
+    at : (b : Bool) → (c.device == d) ≡ b → 1 ≤ cond b 1 0 + count_by (λ x. x.device == d) cs → (1 ≤ count_by (λ x. x.device == d) cs → (i : ℕ) × (x : Called) × (slice_get cs i ≡ Some x) × (x.device ≡ d))
+        → (i : ℕ) × (x : Called) × (slice_get (c ∷ cs) i ≡ Some x) × (x.device ≡ d)
+    at true e some go = (0, c, refl, eqb-true c.device d e)
+    at false e some go = let rest = go (omega (arith, some)) in (suc rest.0, rest.1, rest.2, rest.3)
+
+-- a thread whose callback came had begun
+stood_began : (s : Script) (t : ℕ) (l : Log) (k : ℕ) (c : Called) → callback_stood s t l k c ≡ true → list_any (says (is_on s t c.device) is_began) (steps l) ≡ true
+stood_began s t l k c e =
+    let p = and_parts (list_all (made_before c.at) (take k (steps l)) && list_all (made_behind c.at) (drop k (steps l)) && list_any (says (is_on s t c.device) is_began) (take k (steps l))) (is_none (held (is_on s t c.device) c.device (reverse (take k (steps l))))) e in
+    let q = and_parts (list_all (made_before c.at) (take k (steps l)) && list_all (made_behind c.at) (drop k (steps l))) (list_any (says (is_on s t c.device) is_began) (take k (steps l))) p.0 in
+    ap (list_any (says (is_on s t c.device) is_began)) (sym (both_parts k (steps l))) ∙ any_first (says (is_on s t c.device) is_began) (take k (steps l)) (drop k (steps l)) q.1
+
+began_counted : (on : ℕ → Bool) (ss : List Step) → list_any (says on is_began) ss ≡ true → 1 ≤ length (filter_map (count_begun on) ss)
+began_counted on [] e = absurd (false≢true e)
+began_counted on (step.Did i x ∷ ss) e = of x.at x.op x.answer e (λ f. began_counted on ss f)
+  where
+    of : (at k : ℕ) (a : Answer) → ((on k && is_began a) || list_any (says on is_began) ss) ≡ true → (list_any (says on is_began) ss ≡ true → 1 ≤ length (filter_map (count_begun on) ss))
+        → 1 ≤ length (cons_option (count_begun on (step.Did i (record { at = at; op = k; answer = a }))) (filter_map (count_begun on) ss))
+    of at k (answer.Began n) e go = here (on k) e
+      where
+        here : (b : Bool) → ((b && true) || list_any (says on is_began) ss) ≡ true → 1 ≤ length (cons_option (cond b (Some n) None) (filter_map (count_begun on) ss))
+        here true e = omega arith
+        here false e = go e
+    of at k _ e go = go (no_right (on k) e)
+      where
+        no_right : (b : Bool) → ((b && false) || list_any (says on is_began) ss) ≡ true → list_any (says on is_began) ss ≡ true
+        no_right true e = e
+        no_right false e = e
+began_counted on (step.Called i x ∷ ss) e = began_counted on ss e
+began_counted on (step.Ran i m ∷ ss) e = began_counted on ss e
+
+none_begun : (m : Note) → m.begun ≡ 0 → begun_in m ≡ []
+none_begun m e = ap (λ b. cond b [] (m.count ∷ [])) (eq-eqb m.begun 0 e)
 
 empty : {X : Type 0} (xs : List X) → length xs ≡ 0 → xs ≡ []
 empty [] e = refl
@@ -198,14 +240,11 @@ module _ (r : Record) (logs : List Log) (whole : IsWholeRun r logs) (d : ℕ) (d
   pub began_once : over_steps r (began_on r d) ≡ ((end r logs whole d device).thread, (end r logs whole d device).given) ∷ []
   began_once =
       flat_only (λ t. filter_map (began_on r d t) (own_order_of r t)) 0 n who.thread (omega arith) (omega (arith, who.within))
-      (λ t low high other. began_of t (omega (arith, high)) ∙ ap (with_thread t) (none (own t) (others r logs whole d device t (omega (arith, high)) other)))
+      (λ t low high other. began_of t (omega (arith, high)) ∙ ap (with_thread t) (none_begun (own t) (others r logs whole d device t (omega (arith, high)) other)))
       ∙ began_of who.thread who.within
       ∙ ap (with_thread who.thread) (one (own who.thread) who.began.0)
       ∙ ap₂ (λ (t : ℕ) (g : ℕ). (t, g) ∷ []) (thread_is r logs whole d device) who.began.1
     where
-      none : (m : Note) → m.begun ≡ 0 → begun_in m ≡ []
-      none m e = ap (λ b. cond b [] (m.count ∷ [])) (eq-eqb m.begun 0 e)
-
       one : (m : Note) → m.begun ≡ 1 → begun_in m ≡ m.count ∷ []
       one m e = ap (λ b. cond b [] (m.count ∷ [])) (ne_eqb m.begun 0 (λ k. omega (arith, e, k)))
 
@@ -217,17 +256,28 @@ module _ (r : Record) (logs : List Log) (whole : IsWholeRun r logs) (d : ℕ) (d
       let all = calls_are r t d (own_order_of r t) in
       (all.0, all.1 ∙ ap (count_of (is_call d)) (of_log r logs whole own_order t l.0 l.1) ∙ calls_counted d l.0.lines ∙ (own_fits r logs whole d device t l.0 l.1).fired)
 
+  -- where a callback came, the thread had begun
   none_fired : (t : ℕ) → t < n → (t ≡ who.thread → ⊥) → (own t).fired ≡ 0
-  none_fired t less other = let l = log_of r logs whole t less in omega (arith, (own_fits r logs whole d device t l.0 l.1).only_begun, others r logs whole d device t less other)
+  none_fired t less other =
+      let l = log_of r logs whole t less in
+      let note = own_fits r logs whole d device t l.0 l.1 in
+      elim (cases_eq (own t).fired 0) [
+        | inl none ↦ none
+        | inr some ↦
+            let ends = ended r logs whole t l.0 l.1 in
+            let call = called_one d l.0.lines.called (omega (arith, some, note.fired)) in
+            let at = zip_get l.0.stood l.0.lines.called call.0 call.1 ends.stood call.2 in
+            let stood = item_passes (λ p. callback_stood r.script t l.0 p.0 p.1) (zip l.0.stood l.0.lines.called) call.0 (at.0, call.1) ends.callbacks at.1 in
+            let some_begun = began_counted (is_on r.script t d) (steps l.0) (subst (λ k. list_any (says (is_on r.script t k) is_began) (steps l.0) ≡ true) call.3 (stood_began r.script t l.0 at.0 call.1 stood)) in
+            absurd (omega (arith, some_begun, ap length note.begun, ap length (none_begun (own t) (others r logs whole d device t less other))))
+      ]
 
   one_fired : (own who.thread).fired ≡ 1
   one_fired =
-      let l = log_of r logs whole who.thread who.within in
       let s = settled r logs whole d device in
       omega (
         arith,
-        (own_fits r logs whole d device who.thread l.0 l.1).only_begun,
-        who.began.0,
+        sum_has (λ t. (own t).fired) n who.thread who.within,
         s.fired,
         s.one_callback,
         rows_are_own r logs whole d device (λ m. m.fired) adds_fired,

@@ -35,10 +35,8 @@ pub record NoteFits (s : Script) (t d : ℕ) (l : Log) (n : Note) : Type 0 where
   pub ordinals : n.ordinals ≡ filter_map (ordinal_given (is_on s t d)) (steps l)
   pub found : list_any (says (is_on s t d) is_refusal) (steps l) ≡ true → 1 ≤ n.found
   pub begun : filter_map (count_begun (is_on s t d)) (steps l) ≡ begun_in n
-  pub counts : n.begun ≡ 0 → n.count ≡ 0
   pub began_by : 1 ≤ n.begun → n.began_by ≡ t
   pub fired : count_by (λ x. x.device == d) l.lines.called ≡ n.fired
-  pub only_begun : n.fired ≤ n.begun
 
 -- a note a device
 pub record RowFits (s : Script) (t : ℕ) (l : Log) : Type 0 where
