@@ -134,12 +134,11 @@ note_from s t d l n e f g h =
 
 pub settled_from : (ns : List Note) (e : DeviceEnd) → map (λ k. total (λ n. times k n.ordinals) ns) (range_with_len 0 e.given) ≡ map (λ k. 1) (range_with_len 0 e.given)
     → total (λ n. length n.ordinals) ns ≡ e.given → Any (λ n. (n.begun ≡ 1) × (n.count ≡ e.given) × (n.began_by ≡ e.thread)) ns
-    → total (λ n. n.begun) ns ≡ 1 → total (λ n. n.fired) ns ≡ e.callbacks → e.callbacks ≡ 1 → DeviceSettled ns e
-settled_from ns e once count began alone fired one = record {
+    → total (λ n. n.fired) ns ≡ e.callbacks → e.callbacks ≡ 1 → DeviceSettled ns e
+settled_from ns e once count began fired one = record {
   once = λ k less. each_in_range _ _ 0 e.given k once (omega arith) (omega (arith, less));
   count = count;
   began = began;
-  alone = alone;
   fired = fired;
   one_callback = one;
 }

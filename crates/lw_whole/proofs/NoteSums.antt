@@ -159,7 +159,7 @@ client_last s t c = ap (λ b. cond b ((0, what.Done) ∷ []) (cond (t == 0) (map
 
 -- ---- all rows
 
-total_sum : {X : Type 0} (f : Note → ℕ) (h : X → Note) (xs : List X) → total f (map h xs) ≡ sum_below (λ t. f (unwrap_or (option_map h (slice_get xs t)) idle)) (length xs)
+pub total_sum : {X : Type 0} (f : Note → ℕ) (h : X → Note) (xs : List X) → total f (map h xs) ≡ sum_below (λ t. f (unwrap_or (option_map h (slice_get xs t)) idle)) (length xs)
 total_sum f h [] = refl
 total_sum f h (x ∷ xs) = omega (arith, total_sum f h xs, sum_front (λ t. f (unwrap_or (option_map h (slice_get (x ∷ xs) t)) idle)) (length xs))
 
@@ -171,13 +171,13 @@ module _ (r : Record) (logs : List Log) (whole : IsWholeRun r logs) (d : ℕ) (d
   abbrev pub own_at : ℕ → Note
   own_at t = unwrap_or (option_map (λ l. note_at l.own d) (slice_get logs t)) idle
 
-  abbrev row_at : ℕ → Note
+  abbrev pub row_at : ℕ → Note
   row_at t = unwrap_or (option_map (λ l. note_at l.row d) (slice_get logs t)) idle
 
   pub own_is : (t : ℕ) (l : Log) → slice_get logs t ≡ Some l → own_at t ≡ note_at l.own d
   own_is t l e = ap (λ (o : Option Log). unwrap_or (option_map (λ l. note_at l.own d) o) idle) e
 
-  row_is : (t : ℕ) (l : Log) → slice_get logs t ≡ Some l → row_at t ≡ note_at l.row d
+  pub row_is : (t : ℕ) (l : Log) → slice_get logs t ≡ Some l → row_at t ≡ note_at l.row d
   row_is t l e = ap (λ (o : Option Log). unwrap_or (option_map (λ l. note_at l.row d) o) idle) e
 
   module _ (f : Note → ℕ) (adds : Adds f) where

@@ -1,17 +1,23 @@
 -- One thread began to unregister a device, and it is the one that the registry names.
-use Rattle.std.proofs.Common.{◌≡◌, ℕ, zero, suc, ◌+◌, ◌<◌, ◌==◌, Bool, true, false, List, [], ◌∷◌, map, length, Option, Some, None, slice_get, unwrap_or, refl, sym, ap, subst, ◌∙◌, arith, inl, inr}
+use Rattle.std.proofs.Common.{◌≡◌, ℕ, zero, suc, ◌+◌, ◌<◌, ◌==◌, Bool, true, false, List, [], ◌∷◌, map, length, Option, Some, None, slice_get, unwrap_or, refl, sym, ap, subst, ◌∙◌, arith, inl, inr, cond, ◌≤◌, filter_map}
 use Rattle.std.specs.Prelude.{◌⊎◌, Any, if◌then◌else◌}
-use Rattle.std.specs.List.{cons_option}
-use Rattle.std.proofs.lemmas.Bool.{eqb-true, false≢true}
+use Rattle.std.specs.List.{cons_option, enumerate_from}
+use Rattle.std.proofs.lemmas.Bool.{eqb-true, false≢true, ne_eqb}
 use Rattle.lw_base.specs.declared.message.What.{What}
 use Rattle.lw_base.specs.declared.message.What.TheVariants as what
 use Rattle.lw_base.specs.declared.ends.DeviceEnd.{DeviceEnd}
 use Rattle.lw_model.specs.declared.record.Record.{Record}
-use Rattle.lw_model.specs.Threads.{thread_count, is_client}
+use Rattle.lw_model.specs.Threads.{thread_count, is_client, is_on}
 use Rattle.lw_model.specs.Devices.{device_at}
+use Rattle.lw_base.specs.declared.message.Tag.{Tag}
+use Rattle.lw_base.specs.Totals.{total}
+use Rattle.lw_model.specs.declared.step.Step.TheVariants as step
+use Rattle.lw_whole.proofs.Replying.{owner_steps}
+use Rattle.lw_whole.proofs.TokenFlow.{sum_only}
+use Rattle.lw_whole.proofs.Flow.{sum_below}
 use Rattle.lw_whole.specs.Letters.{Letter, row, Note}
 use Rattle.lw_whole.specs.Logs.{Log}
-use Rattle.lw_whole.specs.Notes.{idle, note_at, both_notes, both_rows, joined, row_of, row_in, rows_in, NoteFits, DeviceSettled, notes_of}
+use Rattle.lw_whole.specs.Notes.{idle, note_at, both_notes, both_rows, joined, row_of, row_in, rows_in, NoteFits, DeviceSettled, notes_of, count_begun, begun_in}
 use Rattle.lw_whole.specs.WholeRun.{IsWholeRun}
 use Rattle.lw_whole.proofs.Access.{at_number, in_range, get_within, within_get, log_of, log_count, ended, app_ended, client_ended, owner_ended}
 use Rattle.lw_whole.proofs.TokenBack.{Among, IsTo}
@@ -19,7 +25,7 @@ use Rattle.lw_whole.proofs.AtStep.{at_step}
 use Rattle.lw_whole.proofs.TokenLoads.{SentFrom, sent_from}
 use Rattle.lw_whole.proofs.Plain.{none_of, NoneOf, step_none}
 use Rattle.lw_whole.proofs.Ranges.{sum_pair}
-use Rattle.lw_whole.proofs.NoteSums.{Adds, is_done, dones_rare, one_done, client_last, last_no_done, own_at, own_is, rows_are_own}
+use Rattle.lw_whole.proofs.NoteSums.{Adds, is_done, dones_rare, one_done, client_last, last_no_done, own_at, own_is, rows_are_own, row_at, row_is, total_sum}
 
 -- what is known of the row that began
 abbrev pub DidBegin : ℕ → ℕ → Note → Type 0
@@ -145,6 +151,31 @@ module _ (r : Record) (logs : List Log) (whole : IsWholeRun r logs) where
         subst (NoteFits r.script t d l) (sym (own_is r logs whole d device t l e ∙ ap (λ (o : Option Note). unwrap_or o idle) at.1))
         (subst (λ k. NoteFits r.script t k l at.0) (omega arith) (at_number (λ k n. NoteFits r.script t k l n) 0 l.own d at.0 row.notes at.1))
 
+    -- an owner lists nothing, so its row began nothing
+    owner_none : (t : ℕ) (l : Log) → slice_get logs t ≡ Some l → (t == 0) ≡ false → is_client r.script t ≡ false → (note_at l.own d).begun ≡ 0
+    owner_none t l e z c =
+        let fits = subst (NoteFits r.script t d l) (own_is r logs whole d device t l e) (own_fits t l e) in
+        none (note_at l.own d) (sym fits.begun ∙ ap (filter_map (count_begun (is_on r.script t d))) (owner_steps l (owner_ended r logs whole t l e z c).did) ∙ no_rans 0 l.lines.ran)
+      where
+        no_rans : (k : ℕ) (ms : List Tag) → filter_map (count_begun (is_on r.script t d)) (map (λ p. step.Ran p.0 p.1) (enumerate_from k ms)) ≡ []
+        no_rans k [] = refl
+        no_rans k (m ∷ ms) = no_rans (k + 1) ms
+
+        none : (m : Note) → begun_in m ≡ [] → m.begun ≡ 0
+        none m e = at (m.begun == 0) refl e
+          where
+            at : (b : Bool) → (m.begun == 0) ≡ b → cond b [] (m.count ∷ []) ≡ [] → m.begun ≡ 0
+            at true f e = eqb-true m.begun 0 f
+            at false f e = cc
+
+    -- no row but the app's began, so all rows began once at most
+    rows_begun : (t : ℕ) (l : Log) → slice_get logs t ≡ Some l → (t == 0) ≡ false → (row_at r logs whole d device t).begun ≡ 0
+    rows_begun t l e z = at (is_client r.script t) refl
+      where
+        at : (b : Bool) → is_client r.script t ≡ b → (row_at r logs whole d device t).begun ≡ 0
+        at true c = ap (λ (m : Note). m.begun) (row_is r logs whole d device t l e ∙ ap (λ ns. note_at ns d) (client_ended r logs whole t l e c).row)
+        at false c = ap (λ (m : Note). m.begun) (row_is r logs whole d device t l e ∙ ap (λ ns. note_at ns d) (owner_ended r logs whole t l e z c).row) ∙ owner_none t l e z c
+
     -- the thread that began
     pub record WhoBegan : Type 0 where
       pub thread : ℕ
@@ -177,7 +208,7 @@ module _ (r : Record) (logs : List Log) (whole : IsWholeRun r logs) where
             let e' = subst (λ k. slice_get logs k ≡ Some l) (eqb-true t 0 z) e in
             of_app l e' (joined_began end.given end.thread d l.own (rows_in l.ran) (subst (λ ns. DidBegin end.given end.thread (note_at ns d)) (app_ended r logs whole l e').took_in.joined h))
         role t l e less h false z true c = absurd (idle_not end.given end.thread (subst (λ ns. DidBegin end.given end.thread (note_at ns d)) (client_ended r logs whole t l e c).row h))
-        role t l e less h false z false c = began_of t l e less (subst (λ ns. DidBegin end.given end.thread (note_at ns d)) (owner_ended r logs whole t l e z c).row h)
+        role t l e less h false z false c = absurd (omega (arith, owner_none t l e z c, (subst (λ ns. DidBegin end.given end.thread (note_at ns d)) (owner_ended r logs whole t l e z c).row h).0))
 
     pub began : WhoBegan
     began = who_began
@@ -191,11 +222,32 @@ module _ (r : Record) (logs : List Log) (whole : IsWholeRun r logs) where
     adds_begun : Adds (λ m. m.begun)
     adds_begun = record { none = refl; both = λ n m. refl }
 
+    alone : total (λ m. m.begun) (notes_of d logs) ≤ 1
+    alone = omega (
+      arith,
+      total_sum (λ m. m.begun) (λ l. note_at l.row d) logs,
+      ap (sum_below (λ t. (row_at r logs whole d device t).begun)) (log_count r logs whole),
+      sum_only (λ t. (row_at r logs whole d device t).begun) 0 n elsewhere,
+      at_app,
+    )
+      where
+        elsewhere : (t : ℕ) → t < n → (t ≡ 0 → ⊥) → (row_at r logs whole d device t).begun ≡ 0
+        elsewhere t less other = let l = log_of r logs whole t less in rows_begun t l.0 l.1 (ne_eqb t 0 other)
+
+        at_app : (row_at r logs whole d device 0).begun ≤ 1
+        at_app =
+            let one = any_log (DidBegin end.given end.thread) (λ l. note_at l.row d) logs settled.began in
+            of one.0 one.1 one.2 one.3 (one.0 == 0) refl
+          where
+            of : (t : ℕ) (l : Log) → slice_get logs t ≡ Some l → DidBegin end.given end.thread (note_at l.row d) → (b : Bool) → (t == 0) ≡ b → (row_at r logs whole d device 0).begun ≤ 1
+            of t l e h true z = omega (arith, h.0, ap (λ (m : Note). m.begun) (row_is r logs whole d device t l e), ap (λ k. (row_at r logs whole d device k).begun) (eqb-true t 0 z))
+            of t l e h false z = absurd (omega (arith, h.0, ap (λ (m : Note). m.begun) (row_is r logs whole d device t l e), rows_begun t l e z))
+
     -- no other thread began
     pub others : (t : ℕ) → t < n → (t ≡ began.thread → ⊥) → (own_at r logs whole d device t).begun ≡ 0
     others t less other = omega (
       arith,
-      settled.alone,
+      alone,
       rows_are_own r logs whole d device (λ m. m.begun) adds_begun,
       sum_pair (λ k. (own_at r logs whole d device k).begun) n began.thread t began.within less other,
       began.began.0,

@@ -95,7 +95,6 @@ pub record DeviceSettled (ns : List Note) (e : DeviceEnd) : Type 0 where
   pub once : (k : ℕ) → k < e.given → total (λ n. times k n.ordinals) ns ≡ 1
   pub count : total (λ n. length n.ordinals) ns ≡ e.given
   pub began : Any (λ n. (n.begun ≡ 1) × (n.count ≡ e.given) × (n.began_by ≡ e.thread)) ns
-  pub alone : total (λ n. n.begun) ns ≡ 1
   pub fired : total (λ n. n.fired) ns ≡ e.callbacks
   pub one_callback : e.callbacks ≡ 1
 
