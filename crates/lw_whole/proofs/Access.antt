@@ -62,7 +62,7 @@ pub client_within : (s : Script) (t : ℕ) → is_client s t ≡ true → t < th
 client_within s t c = omega (arith, leb-true t (length s.clients) (and_parts (nat_lt 0 t) (nat_le t (length s.clients)) c).1)
 
 -- the role of a log by whether its thread is the app, and whether it is a client
-abbrev RoleOf : Script → ℕ → Log → Bool → Bool → Type 0
+abbrev pub RoleOf : Script → ℕ → Log → Bool → Bool → Type 0
 RoleOf s t l a b = elim a [ true ↦ AppEnded s l | false ↦ elim b [ true ↦ ClientEnded s t l | false ↦ OwnerEnded l ] ]
 
 module _ (r : Record) (logs : List Log) (w : IsWholeRun r logs) where

@@ -38,3 +38,5 @@ pub mod WhoBegan
 pub mod DeviceLines
 pub mod Devices
 pub mod NineRules
+pub mod Premises
+pub mod Sames
