@@ -3,7 +3,7 @@ use Rattle.std.proofs.Common.{◌≡◌, ℕ, zero, suc, ◌+◌, ◌<◌, ◌�
 use Rattle.std.specs.Prelude.{slice_index_or, Any, if◌then◌else◌}
 use Rattle.std.specs.List.{list_all, list_any, range_with_len}
 use Rattle.std.proofs.lemmas.Bool.{cases_eq, eqb-true, and_parts, false≢true, ltb-true, ltb-false, leb-true, ne_eqb}
-use Rattle.lw_base.specs.Letters.{sent_by, Names}
+use Rattle.lw_base.specs.Letters.{sent_by, Names, Numbered}
 use Rattle.lw_base.specs.Totals.{total}
 use Rattle.lw_model.specs.declared.script.Script.{Script}
 use Rattle.lw_base.specs.declared.ends.DeviceEnd.{DeviceEnd}
@@ -93,18 +93,21 @@ nothing_sent s [] h = refl
 nothing_sent zero (l ∷ logs) h = absurd (omega (arith, h))
 nothing_sent (suc s) (l ∷ logs) h = nothing_sent s logs (omega (arith, h))
 
-pub rings_from : (logs : List Log) → runs_of logs ≡ sends_to logs → senders_are_threads logs ≡ true → all_numbered logs ≡ all_true (length logs) → RingsSettled logs
-rings_from logs e f g = record {
-  run_is_sent = λ t s within. at t s within (nat_lt s (length logs)) refl;
-  numbered = λ t s within below k d less.
-      let tests = each_in_range _ _ 0 (length logs) s (each_in_range _ _ 0 (length logs) t g (omega arith) (omega (arith, within))) (omega arith) (omega (arith, below)) in
-      let named = numbered_from s 0 (to_thread t (sent_by_thread logs s)) tests k d less in
-      (named.0, omega (arith, named.1));
-}
+pub run_from : (logs : List Log) → runs_of logs ≡ sends_to logs → senders_are_threads logs ≡ true → (t s : ℕ) → t < length logs → sent_by (λ l. l.tag) s (run_by logs t) ≡ to_thread t (sent_by_thread logs s)
+run_from logs e f t s within = at (nat_lt s (length logs)) refl
   where
-    at : (t s : ℕ) → t < length logs → (b : Bool) → nat_lt s (length logs) ≡ b → sent_by (λ l. l.tag) s (run_by logs t) ≡ to_thread t (sent_by_thread logs s)
-    at t s within true is = each_in_range _ _ 0 (length logs) s (each_in_range _ _ 0 (length logs) t e (omega arith) (omega (arith, within))) (omega arith) (omega (arith, ltb-true s (length logs) is))
-    at t s within false is = none_of s (length logs) (ltb-false s (length logs) is) (run_by logs t) (run_below (length logs) t logs f) ∙ sym (ap (to_thread t) (nothing_sent s logs (ltb-false s (length logs) is)))
+    at : (b : Bool) → nat_lt s (length logs) ≡ b → sent_by (λ l. l.tag) s (run_by logs t) ≡ to_thread t (sent_by_thread logs s)
+    at true is = each_in_range _ _ 0 (length logs) s (each_in_range _ _ 0 (length logs) t e (omega arith) (omega (arith, within))) (omega arith) (omega (arith, ltb-true s (length logs) is))
+    at false is = none_of s (length logs) (ltb-false s (length logs) is) (run_by logs t) (run_below (length logs) t logs f) ∙ sym (ap (to_thread t) (nothing_sent s logs (ltb-false s (length logs) is)))
+
+pub all_numbered_from : (logs : List Log) → all_numbered logs ≡ all_true (length logs) → (t s : ℕ) → t < length logs → s < length logs → Numbered (λ l. l.tag) s (to_thread t (sent_by_thread logs s))
+all_numbered_from logs g t s within below k d less =
+    let tests = each_in_range _ _ 0 (length logs) s (each_in_range _ _ 0 (length logs) t g (omega arith) (omega (arith, within))) (omega arith) (omega (arith, below)) in
+    let named = numbered_from s 0 (to_thread t (sent_by_thread logs s)) tests k d less in
+    (named.0, omega (arith, named.1))
+
+pub rings_from : (logs : List Log) → runs_of logs ≡ sends_to logs → senders_are_threads logs ≡ true → all_numbered logs ≡ all_true (length logs) → RingsSettled logs
+rings_from logs e f g = record { run_is_sent = run_from logs e f; numbered = all_numbered_from logs g }
 
 -- ---- rows
 

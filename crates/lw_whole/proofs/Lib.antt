@@ -40,3 +40,5 @@ pub mod Devices
 pub mod NineRules
 pub mod Premises
 pub mod Sames
+pub mod SendTests
+pub mod PremiseTests
