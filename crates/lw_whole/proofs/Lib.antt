@@ -42,3 +42,5 @@ pub mod Premises
 pub mod Sames
 pub mod SendTests
 pub mod PremiseTests
+pub mod Needed
+pub mod BrokenSends
