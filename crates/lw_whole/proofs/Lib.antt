@@ -44,3 +44,7 @@ pub mod SendTests
 pub mod PremiseTests
 pub mod Needed
 pub mod BrokenSends
+pub mod BrokenMessages
+pub mod BrokenRows
+pub mod BrokenMoves
+pub mod AllNeeded
