@@ -19,7 +19,7 @@ app_log = app_log_of (rounds_app)
     (done_of 1 0 (idle ∷ []) ∷ letter 2 0 (what.Visit 2 1 0) (marked ([])) ∷ letter 3 0 (what.Cast 3 0) (reached ([])) ∷ done_of 3 1 (idle ∷ []) ∷ done_of 2 1 (given (0 ∷ []) ∷ []) ∷ [])
     ([] ∷ ((2, letter 0 0 (what.Visit 2 1 0) (marked ([]))) ∷ []) ∷ ((2, letter 0 1 (what.Cast 3 0) (reached (0 ∷ []))) ∷ []) ∷ [] ∷ [] ∷ [] ∷ [])
     ((4, plain 0 0 what.Stop) ∷ [])
-    (1 ∷ [])
+    (6 ∷ [])
     (unregistered 1 0 ∷ [])
 
 abbrev idler_log : Log
@@ -111,7 +111,7 @@ keeper_ended = record {
   callbacks = refl;
   stays_shut = (refl, tt);
   own_row = record { devices = refl; notes = (note_from visit_and_cast.script 4 0 keeper_log idle refl refl refl refl, tt) };
-  role = record { did = refl; called = refl; row = refl };
+  role = record { did = refl; row = refl };
 }
 
 abbrev logs : List Log
@@ -122,7 +122,7 @@ visit_and_cast-whole = record {
   threads = refl;
   each = (app_ended, (idler_ended, (visitor_ended, (caster_ended, (keeper_ended, tt)))));
   rings = rings_from logs refl refl refl;
-  registry = (settled_from (notes_of 0 logs) (device_at visit_and_cast 0) refl refl (0, note_at app_log.row 0, omega arith, refl, (refl, refl, refl)) refl refl refl, tt);
+  registry = (settled_from (notes_of 0 logs) (device_at visit_and_cast 0) refl refl (0, note_at app_log.row 0, omega arith, refl, (refl, refl, refl)) refl refl, tt);
   moved = record {
     taken = [];
     homes = (refl, (refl, (refl, (refl, (refl, tt)))));

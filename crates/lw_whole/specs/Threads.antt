@@ -25,7 +25,6 @@ pub record AppEnded (s : Script) (l : Log) : Type 0 where
 -- an owner lists nothing and keeps its row
 pub record OwnerEnded (l : Log) : Type 0 where
   pub did : l.lines.did ≡ []
-  pub called : l.lines.called ≡ []
   pub row : l.row ≡ l.own
 
 abbrev pub EndedAs : Script → ℕ → Log → Type 0
