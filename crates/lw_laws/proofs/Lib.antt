@@ -2,3 +2,4 @@ pub mod Joined
 pub mod LineLemmas
 pub mod Local
 pub mod ReportLocal
+pub mod RunReports
