@@ -20,14 +20,35 @@ use thiserror::Error;
 /// How many messages an end can send: 2^40.
 const MOST_SENT: u64 = 1_099_511_627_776;
 
+/// Unused words, so many that what lies on their two sides is on different cache lines, also where a processor fetches two
+/// lines at once.
+#[derive(Drop)]
+pub struct Gap {
+    words: [u64; 16],
+}
+
+impl Gap {
+    pub fn new() -> Self {
+        Gap { words: [0; 16] }
+    }
+}
+
 /// The queue that the ends of a ring share. It is for no caller.
+///
+/// All ends read at each call where the queue's head and tail lie, so nothing that is written often may lie beside it.
 pub struct Shared<T: Tagged + Drop> {
+    pub(crate) before: Gap,
     pub(crate) queue: Queue<T>,
+    pub(crate) behind: Gap,
 }
 
 impl<T: Tagged + Drop> Drop for Shared<T> {
     fn drop(self) {
-        let Self { queue } = self;
+        let Self {
+            before: _,
+            queue,
+            behind: _,
+        } = self;
         queue.destroy();
     }
 }
@@ -55,6 +76,8 @@ pub struct SendEnd<T: Tagged + Drop> {
     pub(crate) latch: Option<LatchSend>,
     pub(crate) sender: u32,
     pub(crate) sent: u64,
+    // Each send writes `sent`, so another sender's end never lies beside it.
+    pub(crate) gap: Gap,
 }
 
 impl<T: Tagged + Drop> Model for SendEnd<T> {

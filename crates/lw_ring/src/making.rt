@@ -6,7 +6,7 @@ ghost use Rattle.lw_latch.specs.RingWord.{most_senders};
 ghost use Rattle.lw_ring.specs.Queue.{receiver, one_more};
 ghost use Rattle.lw_ring.specs.Ends.{latch_id, found_of, Outside, ReceiverView, new_sender, new_receiver};
 
-use crate::ends::{SendEnd, Shared};
+use crate::ends::{Gap, SendEnd, Shared};
 use crate::queue::{Dealing, Founding, Pass, Queue};
 use crate::recv::RecvEnd;
 use lw_base::{Naming, NoMemory, Tagged};
@@ -128,7 +128,12 @@ fn found<T: Tagged + Drop, B: Naming<T::Family>>(
 {
     let (queue, mut pass) = Queue::<T>::with_rule(alloc)?;
     drop(queue.another::<Founding<B>>(&mut pass));
-    let shared = Arc::new(alloc, Shared { queue })?;
+    let shared = Shared {
+        before: Gap::new(),
+        queue,
+        behind: Gap::new(),
+    };
+    let shared = Arc::new(alloc, shared)?;
     Ok((shared, pass))
 }
 
@@ -156,6 +161,7 @@ fn deal<T: Tagged + Drop>(
         latch,
         sender,
         sent: 0,
+        gap: Gap::new(),
     })
 }
 

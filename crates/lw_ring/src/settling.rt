@@ -119,6 +119,7 @@ fn take_in<T: Tagged + Drop>(recv: &mut RecvEnd<T>, end: SendEnd<T>)
         latch,
         sender: _,
         sent: _,
+        gap: _,
     } = end;
     recv.shared.queue.absorb::<Dealing>(&mut recv.pass, pass);
     latching::take_in(&mut recv.latch, latch);
