@@ -1,7 +1,8 @@
 //! The registry of devices.
-ghost use Rattle.std.specs.Prelude.{◌≡◌, ◌≤◌, IfOk, length};
+ghost use Rattle.std.specs.Prelude.{◌≡◌, ◌+◌, ◌≤◌, IfOk, length};
+ghost use Rattle.lw_latch.specs.DeviceWord.{most_seats};
 ghost use Rattle.lw_device.specs.Rows.{seat_of};
-ghost use Rattle.lw_tests.specs.Registries.{AreRowsOfOne, HasBegun, latch_of, row_of};
+ghost use Rattle.lw_tests.specs.Registries.{AreRowsOfOne, FoundAndFired, HasBegun, latch_of, row_of};
 
 use lw_base::NoMemory;
 use lw_device::{
@@ -12,7 +13,7 @@ use std::test::Fail;
 
 // The rows of a registry with one device.
 fn new_rows(alloc: Global, threads: u32) -> Result<Vec<DeviceRow>, NoMemory>
-    requires { (1 ≤ threads) × (threads ≤ 127) }
+    requires { (1 ≤ threads) × (threads ≤ most_seats) }
     ensures { IfOk result (λ v. AreRowsOfOne threads v.items) }
 {
     devices(alloc, 1, threads)
@@ -72,6 +73,54 @@ fn a_row_knows_what_the_one_that_it_took_in_had_begun(rt: HostRuntime) -> Result
     a.take_in(b);
     assert!(rt; a.unregister(0) == Err(Already));
     let ends = settle_one(rt.alloc(), a)?;
+    let wanted = [DeviceEnd {
+        given: 0,
+        thread: 1,
+        callbacks: 1,
+    }];
+    assert!(rt; ends.as_slice() == wanted.as_slice());
+    Ok(())
+}
+
+#[test]
+fn a_row_that_took_in_all_others_is_told_how_many_were_given(rt: HostRuntime) -> Result<(), Fail> {
+    let (mut a, mut b) = two_rows(rt.alloc())?;
+    assert!(rt; b.get(0) == Ok(0));
+    b.destroy(0);
+    a.take_in(b);
+    assert!(rt; a.unregister(0) == Ok(1));
+    assert!(rt; a.callback_due(0) == Firing::Fired);
+    let ends = settle_one(rt.alloc(), a)?;
+    let wanted = [DeviceEnd {
+        given: 1,
+        thread: 0,
+        callbacks: 1,
+    }];
+    assert!(rt; ends.as_slice() == wanted.as_slice());
+    Ok(())
+}
+
+// Settles a registry of one device by two rows: `finder` found it shut, and where one of them began it has fired.
+fn settle_two(
+    alloc: Global,
+    finder: DeviceRow,
+    other: DeviceRow,
+) -> Result<Vec<DeviceEnd>, NoMemory>
+    requires { FoundAndFired finder other }
+{
+    let mut rows = Vec::new(alloc);
+    rows.push(finder)?;
+    rows.push(other)?;
+    settle_devices(alloc, rows)
+}
+
+#[test]
+fn rows_settle_of_which_one_found_the_device_shut(rt: HostRuntime) -> Result<(), Fail> {
+    let (mut a, mut b) = two_rows(rt.alloc())?;
+    assert!(rt; b.unregister(0) == Ok(0));
+    assert!(rt; a.look(0) == Look::Shut);
+    assert!(rt; b.callback_due(0) == Firing::Fired);
+    let ends = settle_two(rt.alloc(), a, b)?;
     let wanted = [DeviceEnd {
         given: 0,
         thread: 1,
