@@ -19,11 +19,11 @@ use Rattle.lw_model.specs.Threads.{thread_count, is_client, op_at, image_at}
 use Rattle.lw_model.specs.Holding.{runs}
 use Rattle.lw_model.specs.Sent.{is_same_token, token_of, token_of_op, completion, runners, sent_last}
 use Rattle.lw_model.specs.Lawful.{VisitsSeen, mark_of, seen_by, visit_results}
-use Rattle.lw_whole.specs.Letters.{Letter, Load}
+use Rattle.lw_whole.specs.Letters.{Letter, Load, marks_in, threads_in}
 use Rattle.lw_whole.specs.Logs.{Log, load_at, steps}
 use Rattle.lw_whole.specs.Tokens.{GoesOn, may_pass, empty_load, load_behind}
 use Rattle.lw_whole.specs.Sends.{SentBy}
-use Rattle.lw_whole.specs.Lines.{marks_in, threads_in, results_in}
+use Rattle.lw_whole.specs.Lines.{results_in}
 use Rattle.lw_whole.specs.WholeRun.{IsWholeRun}
 use Rattle.lw_whole.proofs.Access.{client_within, of_log, log_of, ended, client_ended}
 use Rattle.lw_whole.proofs.Flow.{count_at}
