@@ -23,6 +23,7 @@ pub mod TokenGoes
 pub mod RanIsSent
 pub mod Everywhere
 pub mod AtStep
+pub mod SentFrom
 pub mod Marks
 pub mod TokenLoads
 pub mod VisitsSeen

@@ -30,7 +30,8 @@ use Rattle.lw_whole.proofs.Numbers.{run_at}
 use Rattle.lw_whole.proofs.TokenRuns.{count_if}
 use Rattle.lw_whole.proofs.TokenBack.{Among, among_either, IsTo, IsSend, IsLetter, counted_among, sent_to}
 use Rattle.lw_whole.proofs.AtStep.{AtStep, at_step}
-use Rattle.lw_whole.proofs.TokenLoads.{SentFrom, sent_from}
+use Rattle.lw_whole.proofs.SentFrom.{SentFrom}
+use Rattle.lw_whole.proofs.TokenLoads.{sent_from, in_run}
 use Rattle.lw_whole.proofs.Requests.{asks, asks_is, count_asks, count_asks-append, last_asks, Asked, asked_at, asked_once, some_asks}
 use Rattle.lw_whole.proofs.Plain.{NoneOf, none_of}
 use Rattle.lw_whole.proofs.Replying.{is_reply, reply_of_owner, step_answers, count_asked, some_asked, reply_found, owner_steps}
@@ -130,9 +131,9 @@ module _ (r : Record) (logs : List Log) (whole : IsWholeRun r logs) (t : ℕ) (l
           last_asks r.script t k,
         )
 
-    of_sender : SentFrom r logs whole t y → Owes k y
+    of_sender : SentFrom logs t y → Owes k y
     of_sender from = elim from.among [
-      | inl at_steps ↦ of_owner from.sender from.log from.at from.within at_steps (at_step r.script from.sender from.log (IsTo t (λ z. z ≡ y)) (ended r logs whole from.sender from.log from.at).sends.at_steps at_steps)
+      | inl at_steps ↦ of_owner from.sender from.log from.at (in_run r logs whole from.sender from.within) at_steps (at_step r.script from.sender from.log (IsTo t (λ z. z ≡ y)) (ended r logs whole from.sender from.log from.at).sends.at_steps at_steps)
       | inr at_end ↦ absurd (none_of is_reply t y from.log.last (ap is_reply reply) (subst (NoneOf is_reply) (sym (ended r logs whole from.sender from.log from.at).sends.at_end) (last_none r.script from.sender)) at_end)
     ]
 
@@ -163,5 +164,5 @@ replies r logs whole t client =
     let less = client_within r.script t client in
     let l = log_of r logs whole t less in
     ap (map (λ x. Some x)) (of_log r logs whole (λ x. x.replies) t l.0 l.1 ∙ (client_ended r logs whole t l.0 l.1 client).replies)
-    ∙ each_owed r logs whole t l.0 l.1 client l.0.ran (λ i y e k is. of_sender r logs whole t l.0 l.1 client k y is (sent_from r logs whole t l.0 l.1 less i y e))
+    ∙ each_owed r logs whole t l.0 l.1 client l.0.ran (λ i y e k is. of_sender r logs whole t l.0 l.1 client k y is (sent_from r logs whole t l.0 l.1 i y e))
     ∙ ap (λ ms. map (owed r t) (filter_map reply_op ms)) ((ended r logs whole t l.0 l.1).tags ∙ sym (of_log r logs whole (λ x. x.ran) t l.0 l.1))

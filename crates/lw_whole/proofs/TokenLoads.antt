@@ -1,11 +1,9 @@
 -- What a token carries to each thread: what those below added that ran it.
 use Rattle.std.proofs.Common.{◌≡◌, ℕ, zero, suc, ◌+◌, ◌<◌, ◌≤◌, ◌==◌, Bool, true, false, cond, List, [], ◌∷◌, length, Option, Some, None, slice_get, unwrap_or, option_map, refl, sym, ap, subst, ◌∙◌, arith, inl, inr, find}
-use Rattle.std.specs.Prelude.{◌⊎◌, option_and_then, if◌then◌else◌}
-use Rattle.std.specs.List.{flat_map}
-use Rattle.std.proofs.lemmas.Bool.{eqb-true, eq-eqb, false≢true, cases_lt}
+use Rattle.std.specs.Prelude.{option_and_then}
+use Rattle.std.proofs.lemmas.Bool.{eqb-true, eq-eqb, false≢true}
 use Rattle.lw_base.specs.declared.message.Tag.{Tag}
 use Rattle.lw_base.specs.declared.message.What.{What}
-use Rattle.lw_base.specs.Letters.{sent_by}
 use Rattle.lw_model.specs.declared.record.Record.{Record}
 use Rattle.lw_model.specs.declared.step.Step.{Step}
 use Rattle.lw_model.specs.declared.step.Step.TheVariants as step
@@ -15,20 +13,20 @@ use Rattle.lw_model.specs.Holding.{runs}
 use Rattle.lw_model.specs.Sent.{is_same_token}
 use Rattle.lw_model.specs.Lawful.{mark_of}
 use Rattle.lw_whole.specs.Letters.{Letter, Load, nothing}
-use Rattle.lw_whole.specs.Logs.{Log, without_callbacks, addressed, load_at, steps, steps_with_past, all_sends, sent_by_thread}
+use Rattle.lw_whole.specs.Logs.{Log, without_callbacks, addressed, load_at, steps, steps_with_past}
 use Rattle.lw_whole.specs.Tokens.{GoesOn, empty_load, load_behind}
 use Rattle.lw_whole.specs.Sends.{SentBy}
 use Rattle.lw_whole.specs.WholeRun.{IsWholeRun}
-use Rattle.lw_whole.proofs.Access.{of_log, log_of, log_count, ended, get_map}
+use Rattle.lw_whole.proofs.Access.{of_log, log_count, ended, get_map}
 use Rattle.lw_whole.proofs.Steps.{steps_are, Stands}
-use Rattle.lw_whole.proofs.Numbers.{run_at, none_sent}
 use Rattle.lw_whole.proofs.Flow.{count_at, sum_has}
 use Rattle.lw_whole.proofs.TokenCounts.{same_is, NoneIs, not_completion, starts, dest, dests, others_none}
 use Rattle.lw_whole.proofs.TokenRuns.{Token, count_of, count_steps, ran_goes, started_goes}
 use Rattle.lw_whole.proofs.TokenFlow.{runs_at, starts_of, goes_of, starts_is, goes_is, runs_are, start, last_none}
-use Rattle.lw_whole.proofs.TokenBack.{Among, among_either, of_some_sender, IsTo, sent_to}
+use Rattle.lw_whole.proofs.TokenBack.{Among, IsTo}
 use Rattle.lw_whole.proofs.TokenWay.{Begun, begun_at}
 use Rattle.lw_whole.proofs.Once.{begun_by_run}
+use Rattle.lw_whole.proofs.SentFrom.{SentFrom, came_from}
 use Rattle.lw_whole.proofs.AtStep.{AtStep, at_step}
 use Rattle.lw_whole.proofs.TokenGoes.{has, all_go, at_most_once, dest_to, before, between}
 use Rattle.lw_whole.proofs.Marks.{mark_behind, below_same, loaded_of, loaded, loaded_first, loaded_behind, find_without}
@@ -43,61 +41,21 @@ single u (v ∷ []) few some = at (v == u) refl some
     at false e h = absurd (omega (arith, h))
 single u (v ∷ w ∷ us) few some = absurd (omega (arith, few))
 
-among_get : {X : Type 0} (xs : List X) (i : ℕ) (x : X) → slice_get xs i ≡ Some x → Among (λ y. y ≡ x) xs
-among_get [] i x e = cc
-among_get (y ∷ xs) zero x e = inl (same e)
-  where
-    same : Some y ≡ Some x → y ≡ x
-    same e = cc
-among_get (y ∷ xs) (suc i) x e = inr (among_get xs i x e)
-
 -- what none of the messages is isn't among them
 none_among : (w : What) (u : ℕ) (x : Letter) (now : List (ℕ × Letter)) → is_same_token w x.tag.what ≡ true → NoneIs w (addressed now) → Among (IsTo u (λ y. y ≡ x)) now → ⊥
 none_among w u x [] e h g = g
 none_among w u x (p ∷ now) e h (inl is) = false≢true (sym h.0 ∙ ap (λ (y : Letter). is_same_token w y.tag.what) is.1 ∙ e)
 none_among w u x (p ∷ now) e h (inr later) = none_among w u x now e h.1 later
 
--- a letter of a sender names it
-named_by : (s : ℕ) (x : Letter) (ls : List Letter) → Among (λ y. y ≡ x) (sent_by (λ l. l.tag) s ls) → x.tag.sender ≡ s
-named_by s x [] g = absurd g
-named_by s x (y ∷ ls) g = at (y.tag.sender == s) refl g (λ h. named_by s x ls h)
-  where
-    at : (b : Bool) → (y.tag.sender == s) ≡ b → Among (λ z. z ≡ x) (if b then y ∷ sent_by (λ l. l.tag) s ls else sent_by (λ l. l.tag) s ls) → (Among (λ z. z ≡ x) (sent_by (λ l. l.tag) s ls) → x.tag.sender ≡ s) → x.tag.sender ≡ s
-    at true e (inl is) go = ap (λ (z : Letter). z.tag.sender) (sym is) ∙ eqb-true y.tag.sender s e
-    at true e (inr g) go = go g
-    at false e g go = go g
-
 module _ (r : Record) (logs : List Log) (whole : IsWholeRun r logs) where
   abbrev n : ℕ
   n = thread_count r.script
 
-  -- a letter that thread u ran was sent to it by some thread, at a step or last
-  pub record SentFrom (u : ℕ) (x : Letter) : Type 0 where
-    pub sender : ℕ
-    pub named : x.tag.sender ≡ sender
-    pub within : sender < thread_count r.script
-    pub log : Log
-    pub at : slice_get logs sender ≡ Some log
-    pub among : Among (IsTo u (λ y. y ≡ x)) (flat_map (λ now. now) log.sends) ⊎ Among (IsTo u (λ y. y ≡ x)) log.last
+  pub sent_from : (u : ℕ) (l : Log) → slice_get logs u ≡ Some l → (i : ℕ) (x : Letter) → slice_get l.ran i ≡ Some x → SentFrom logs u x
+  sent_from u l at i x e = came_from logs whole.rings u l at i x e
 
-  pub sent_from : (u : ℕ) (l : Log) → slice_get logs u ≡ Some l → u < thread_count r.script → (i : ℕ) (x : Letter) → slice_get l.ran i ≡ Some x → SentFrom u x
-  sent_from u l at less i x e =
-      let by = of_some_sender (λ y. y ≡ x) l.ran (among_get l.ran i x e) in
-      let sent : Among (IsTo u (λ y. y ≡ x)) (sent_by_thread logs by.0) = sent_to u (λ y. y ≡ x) (sent_by_thread logs by.0)
-      (subst (Among (λ y. y ≡ x)) (ap (sent_by (λ l. l.tag) by.0) (sym (run_at logs u l at)) ∙ whole.rings.run_is_sent u by.0 (omega (arith, less, log_count r logs whole))) by.1) in
-      elim (cases_lt by.0 (thread_count r.script)) [
-        | inl within ↦
-            let s = log_of r logs whole by.0 within in
-            record {
-              sender = by.0;
-              named = named_by by.0 x l.ran by.1;
-              within = within;
-              log = s.0;
-              at = s.1;
-              among = among_either (IsTo u (λ y. y ≡ x)) (flat_map (λ now. now) s.0.sends) s.0.last (subst (Among (IsTo u (λ y. y ≡ x))) (ap (λ (o : Option Log). unwrap_or (option_map all_sends o) []) s.1) sent);
-            }
-        | inr out ↦ absurd (subst (Among (IsTo u (λ y. y ≡ x))) (none_sent logs by.0 (omega (arith, out, log_count r logs whole))) sent)
-      ]
+  pub in_run : (t : ℕ) → t < length logs → t < n
+  in_run t less = omega (arith, less, log_count r logs whole)
 
   -- the mark of a thread that ran the token once
   mark_is : (w : What) (t : ℕ) (l : Log) → slice_get logs t ≡ Some l → (d : ℕ) (past : List Step) (i : ℕ) (m : Tag)
@@ -150,7 +108,7 @@ module _ (r : Record) (logs : List Log) (whole : IsWholeRun r logs) where
 
     pub carried : (m u : ℕ) → u < m → Carries u
     carried zero u below l at less i x e is = absurd (omega (arith, below))
-    carried (suc m) u below l at less i x e is = of_sender (λ t h. carried m t h) (sent_from u l at less i x e)
+    carried (suc m) u below l at less i x e is = of_sender (λ t h. carried m t h) (sent_from u l at i x e)
       where
         same_token : is_same_token w x.tag.what ≡ true
         same_token = ap (is_same_token w) is ∙ tok
@@ -181,10 +139,10 @@ module _ (r : Record) (logs : List Log) (whole : IsWholeRun r logs) where
         by_step lower t g there within a false true f k = of_run lower t g there within a a.this refl k
         by_step lower t g there within a false false f k = absurd (none_among w u x a.now same_token (others_none r.script t g w a.past a.this a.now f k a.sent) a.among)
 
-        of_sender : ((t : ℕ) → t < m → Carries t) → SentFrom u x → x.load ≡ loaded r w u
+        of_sender : ((t : ℕ) → t < m → Carries t) → SentFrom logs u x → x.load ≡ loaded r w u
         of_sender lower from = elim from.among [
           | inl at_steps ↦
               let a = at_step r.script from.sender from.log (IsTo u (λ y. y ≡ x)) (ended r logs whole from.sender from.log from.at).sends.at_steps at_steps in
-              by_step lower from.sender from.log from.at from.within a (starts r.script from.sender w a.this) (runs (is_same_token w) a.this) refl refl
+              by_step lower from.sender from.log from.at (in_run from.sender from.within) a (starts r.script from.sender w a.this) (runs (is_same_token w) a.this) refl refl
           | inr at_end ↦ absurd (none_among w u x from.log.last same_token (subst (NoneIs w) (sym (ended r logs whole from.sender from.log from.at).sends.at_end) (last_none r.script from.sender w)) at_end)
         ]

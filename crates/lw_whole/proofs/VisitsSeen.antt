@@ -19,11 +19,11 @@ use Rattle.lw_model.specs.Threads.{thread_count, is_client, op_at, image_at}
 use Rattle.lw_model.specs.Holding.{runs}
 use Rattle.lw_model.specs.Sent.{is_same_token, token_of, token_of_op, completion, runners, sent_last}
 use Rattle.lw_model.specs.Lawful.{VisitsSeen, mark_of, seen_by, visit_results}
-use Rattle.lw_whole.specs.Letters.{Letter, Load}
+use Rattle.lw_whole.specs.Letters.{Letter, Load, marks_in, threads_in}
 use Rattle.lw_whole.specs.Logs.{Log, load_at, steps}
 use Rattle.lw_whole.specs.Tokens.{GoesOn, may_pass, empty_load, load_behind}
 use Rattle.lw_whole.specs.Sends.{SentBy}
-use Rattle.lw_whole.specs.Lines.{marks_in, threads_in, results_in}
+use Rattle.lw_whole.specs.Lines.{results_in}
 use Rattle.lw_whole.specs.WholeRun.{IsWholeRun}
 use Rattle.lw_whole.proofs.Access.{client_within, of_log, log_of, ended, client_ended}
 use Rattle.lw_whole.proofs.Flow.{count_at}
@@ -36,7 +36,8 @@ use Rattle.lw_whole.proofs.Once.{begun_by_run}
 use Rattle.lw_whole.proofs.AtStep.{AtStep, at_step}
 use Rattle.lw_whole.proofs.TokenGoes.{all_go, at_most_once, dest_home, not_passed, between}
 use Rattle.lw_whole.proofs.Marks.{below_same, loaded_of, loaded}
-use Rattle.lw_whole.proofs.TokenLoads.{single, SentFrom, sent_from, behind, carried}
+use Rattle.lw_whole.proofs.SentFrom.{SentFrom}
+use Rattle.lw_whole.proofs.TokenLoads.{single, sent_from, in_run, behind, carried}
 
 -- ---- what a completion tells of its token
 
@@ -62,6 +63,21 @@ among_is o x [] g = g
 among_is o x (p ∷ now) (inl is) = inl (is.0, ap (λ (y : Letter). y.tag.what) is.1)
 among_is o x (p ∷ now) (inr g) = inr (among_is o x now g)
 
+-- a completion is sent by what goes home
+pub back_home : (s : Script) (t : ℕ) (x : Letter) (w : What) (from : ℕ) (load : Load) (now : List (ℕ × Letter)) → Token w → is_back x.tag.what ≡ true → GoesOn s w from load now → Among (IsTo t (λ y. y ≡ x)) now
+    → (x.load ≡ load) × may_pass s w from (thread_count s) × (1 ≤ count_at (thread_count s) (dests (thread_count s) w now))
+back_home s t x w from load [] tok back h g = absurd g
+back_home s t x w from load (p ∷ []) tok back h (inr g) = absurd g
+back_home s t x w from load (p ∷ []) tok back (inl to) (inl is) =
+    let same : x.tag.what ≡ w = ap (λ (y : Letter). y.tag.what) (sym is.1) ∙ to.token in
+    absurd (false≢true (sym (back_no_token x.tag.what back) ∙ ap (λ v. is_same_token v v) same ∙ tok))
+back_home s t x w from load (p ∷ []) tok back (inr home) (inl is) = (
+  ap (λ (y : Letter). y.load) (sym is.1) ∙ home.carried,
+  home.passed,
+  omega (arith, ap {B = ℕ} (λ b. cond b 1 0) (eq-eqb (dest (thread_count s) w p) (thread_count s) (dest_home (thread_count s) w p home.completes))),
+)
+back_home s t x w from load (p ∷ q ∷ rest) tok back h g = absurd h
+
 module _ (r : Record) (logs : List Log) (whole : IsWholeRun r logs) where
   abbrev n : ℕ
   n = thread_count r.script
@@ -73,20 +89,6 @@ module _ (r : Record) (logs : List Log) (whole : IsWholeRun r logs) where
     pub completes : completion token ≡ (t, x.tag.what) ∷ []
     pub brought : x.load ≡ loaded r token (thread_count r.script)
 
-  back_home : (t : ℕ) (x : Letter) (w : What) (from : ℕ) (load : Load) (now : List (ℕ × Letter)) → Token w → is_back x.tag.what ≡ true → GoesOn r.script w from load now → Among (IsTo t (λ y. y ≡ x)) now
-      → (x.load ≡ load) × may_pass r.script w from n × (1 ≤ count_at n (dests n w now))
-  back_home t x w from load [] tok back h g = absurd g
-  back_home t x w from load (p ∷ []) tok back h (inr g) = absurd g
-  back_home t x w from load (p ∷ []) tok back (inl to) (inl is) =
-      let same : x.tag.what ≡ w = ap (λ (y : Letter). y.tag.what) (sym is.1) ∙ to.token in
-      absurd (false≢true (sym (back_no_token x.tag.what back) ∙ ap (λ v. is_same_token v v) same ∙ tok))
-  back_home t x w from load (p ∷ []) tok back (inr home) (inl is) = (
-    ap (λ (y : Letter). y.load) (sym is.1) ∙ home.carried,
-    home.passed,
-    omega (arith, ap {B = ℕ} (λ b. cond b 1 0) (eq-eqb (dest n w p) n (dest_home n w p home.completes))),
-  )
-  back_home t x w from load (p ∷ q ∷ rest) tok back h g = absurd h
-
   module _ (t : ℕ) (x : Letter) (back : is_back x.tag.what ≡ true) where
     of_run : (s : ℕ) (l : Log) → slice_get logs s ≡ Some l → s < thread_count r.script → (a : AtStep r.script s l (IsTo t (λ y. y ≡ x))) (w : What) → Token w → completion w ≡ (t, x.tag.what) ∷ [] → (y : Step) → a.this ≡ y
         → runs (is_same_token w) a.this ≡ true → Back t x
@@ -94,7 +96,7 @@ module _ (r : Record) (logs : List Log) (whole : IsWholeRun r logs) where
     of_run s l at less a w tok completes (step.Called i d) this f = absurd (false≢true (ap (runs (is_same_token w)) (sym this) ∙ f))
     of_run s l at less a w tok completes (step.Ran i m) this f =
         let is_run : is_same_token w m.what ≡ true = ap (runs (is_same_token w)) (sym this) ∙ f in
-        let home = back_home t x w (s + 1) (load_behind r.script s a.past w (load_at l i)) a.now tok back (ran_goes r.script s l w a.past i m a.now is_run (subst (λ z. SentBy r.script s l a.past z a.now) this a.sent)) a.among in
+        let home = back_home r.script t x w (s + 1) (load_behind r.script s a.past w (load_at l i)) a.now tok back (ran_goes r.script s l w a.past i m a.now is_run (subst (λ z. SentBy r.script s l a.past z a.now) this a.sent)) a.among in
         let total : runs_at r logs whole w s ≡ count_of (runs (is_same_token w)) (steps l) = runs_are r logs whole w s l at ∙ sym (count_steps (is_same_token w) l) in
         let b = begun_by_run r logs whole w tok s less (omega (arith, total, a.counted (runs (is_same_token w)) f)) in
         let goes = single n (goes_of r logs whole w s) (omega (arith, all_go r logs whole w tok b s less, at_most_once r logs whole w tok b s less))
@@ -107,16 +109,16 @@ module _ (r : Record) (logs : List Log) (whole : IsWholeRun r logs) where
               ∙ sym (ap (loaded_of r w) (below_same r w (suc s) n (omega (arith, less)) (λ v low high. between r logs whole w tok b s n v (omega (arith, low)) high (omega arith) goes)));
         }
 
-    of_sender : SentFrom r logs whole t x → Back t x
+    of_sender : SentFrom logs t x → Back t x
     of_sender from = elim from.among [
       | inl at_steps ↦
           let a = at_step r.script from.sender from.log (IsTo t (λ y. y ≡ x)) (ended r logs whole from.sender from.log from.at).sends.at_steps at_steps in
           let of = of_step r.script from.sender n t from.log x.tag.what back a.past a.this a.now a.sent (among_is t x a.now a.among) in
           elim of.by [
             | inl begins ↦
-                let home = back_home t x of.token 0 (empty_load of.token) a.now of.is_token back (started_goes r.script from.sender from.log of.token a.past a.this a.now begins a.sent) a.among in
+                let home = back_home r.script t x of.token 0 (empty_load of.token) a.now of.is_token back (started_goes r.script from.sender from.log of.token a.past a.this a.now begins a.sent) a.among in
                 absurd (not_passed r.script of.token 0 n 0 (omega arith) (omega arith) refl home.1)
-            | inr ran ↦ of_run from.sender from.log from.at from.within a of.token of.is_token of.completes a.this refl ran
+            | inr ran ↦ of_run from.sender from.log from.at (in_run r logs whole from.sender from.within) a of.token of.is_token of.completes a.this refl ran
           ]
       | inr at_end ↦ absurd (plain_not t x.tag.what (sent_last r.script from.sender) from.log.last back (ended r logs whole from.sender from.log from.at).sends.at_end (last_back r.script from.sender) (among_is t x from.log.last at_end))
     ]
@@ -161,10 +163,10 @@ module _ (r : Record) (logs : List Log) (whole : IsWholeRun r logs) where
             → ◌≡◌ {A = Option Seen} (elim v [ what.Visited k ↦ Some (record { op = k; results = by.Visit (marks_in x.load) }) | what.Casted k ↦ Some (record { op = k; results = by.Cast (threads_in x.load) }) | _ ↦ None ])
             (elim v [ what.Visited k ↦ Some (record { op = k; results = visit_results r t k }) | what.Casted k ↦ Some (record { op = k; results = by.Cast (runners r (what.Cast t k)) }) | _ ↦ None ])
         on (what.Visited k) is =
-            let back = of_sender t x (ap is_back is) (sent_from r logs whole t l at less i x e) in
+            let back = of_sender t x (ap is_back is) (sent_from r logs whole t l at i x e) in
             ap (λ z. Some (record { op = k; results = z })) (visit_results_are k x back.token back.begun (back.completes ∙ ap (λ v. (t, v) ∷ []) is) back.brought)
         on (what.Casted k) is =
-            let back = of_sender t x (ap is_back is) (sent_from r logs whole t l at less i x e) in
+            let back = of_sender t x (ap is_back is) (sent_from r logs whole t l at i x e) in
             ap (λ z. Some (record { op = k; results = z })) (cast_results_are k x back.token (back.completes ∙ ap (λ v. (t, v) ∷ []) is) back.brought)
         on _ is = refl
 

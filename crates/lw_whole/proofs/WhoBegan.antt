@@ -22,7 +22,8 @@ use Rattle.lw_whole.specs.WholeRun.{IsWholeRun}
 use Rattle.lw_whole.proofs.Access.{at_number, in_range, get_within, within_get, log_of, log_count, ended, app_ended, client_ended, owner_ended}
 use Rattle.lw_whole.proofs.TokenBack.{Among, IsTo}
 use Rattle.lw_whole.proofs.AtStep.{at_step}
-use Rattle.lw_whole.proofs.TokenLoads.{SentFrom, sent_from}
+use Rattle.lw_whole.proofs.SentFrom.{SentFrom}
+use Rattle.lw_whole.proofs.TokenLoads.{sent_from, in_run}
 use Rattle.lw_whole.proofs.Plain.{none_of, NoneOf, step_none}
 use Rattle.lw_whole.proofs.Ranges.{sum_pair}
 use Rattle.lw_whole.proofs.NoteSums.{Adds, is_done, dones_rare, one_done, client_last, last_no_done, own_at, own_is, rows_are_own, row_at, row_is, total_sum}
@@ -104,9 +105,9 @@ module _ (r : Record) (logs : List Log) (whole : IsWholeRun r logs) where
     pub carried : x.load ≡ row log.own
 
   pub done_from : (l : Log) → slice_get logs 0 ≡ Some l → (i : ℕ) (x : Letter) → slice_get l.ran i ≡ Some x → is_done x.tag.what ≡ true → DoneFrom x
-  done_from l at i x e done = of (sent_from r logs whole 0 l at (omega arith) i x e)
+  done_from l at i x e done = of (sent_from r logs whole 0 l at i x e)
     where
-      of : SentFrom r logs whole 0 x → DoneFrom x
+      of : SentFrom logs 0 x → DoneFrom x
       of from = elim from.among [
         | inl at_steps ↦
             let a = at_step r.script from.sender from.log (IsTo 0 (λ y. y ≡ x)) (ended r logs whole from.sender from.log from.at).sends.at_steps at_steps in
@@ -121,7 +122,7 @@ module _ (r : Record) (logs : List Log) (whole : IsWholeRun r logs) where
               record {
                 client = from.sender;
                 named = from.named;
-                within = from.within;
+                within = in_run r logs whole from.sender from.within;
                 is = c;
                 log = from.log;
                 at = from.at;

@@ -1,7 +1,6 @@
 -- What a thread lists, by its own steps alone.
 use Rattle.std.specs.Prelude.{ℕ, ◌==◌, nat_lt, nat_le, Bool, true, false, cond, ◌&&◌, ◌||◌, not, List, [], ◌∷◌, length, take, drop, reverse, Option, Some, None, option_map, is_none, count_by}
 use Rattle.std.specs.List.{list_all, list_any}
-use Rattle.lw_base.specs.declared.message.Mark.{Mark}
 use Rattle.lw_base.specs.declared.message.What.TheVariants as what
 use Rattle.lw_model.specs.declared.script.Script.{Script}
 use Rattle.lw_model.specs.declared.step.Step.{Step}
@@ -15,7 +14,7 @@ use Rattle.lw_model.specs.OwnOrder.{with_past}
 use Rattle.lw_model.specs.Holding.{is_started, says, held}
 use Rattle.lw_model.specs.Answers.{answer_fits, depth_fits, completes, unregister_fits, is_done_of, at_fits}
 use Rattle.lw_model.specs.Devices.{is_began, needs_open, tells_shut}
-use Rattle.lw_whole.specs.Letters.{Letter, Load, marked, reached}
+use Rattle.lw_whole.specs.Letters.{Letter, marks_in, threads_in}
 use Rattle.lw_whole.specs.Logs.{Log, steps}
 use Rattle.lw_whole.specs.Sends.{answer_in}
 
@@ -77,14 +76,6 @@ abbrev pub reply_in : Letter → Option Reply
 reply_in x = elim x.tag.what [ what.Reply k ↦ option_map (λ a. record { op = k; answer = a }) (answer_in x.load) | _ ↦ None ]
 
 -- the results that a completion brought
-abbrev pub marks_in : Load → List Mark
-marks_in (marked ms) = ms
-marks_in _ = []
-
-abbrev pub threads_in : Load → List ℕ
-threads_in (reached ts) = ts
-threads_in _ = []
-
 abbrev pub results_in : Letter → Option Seen
 results_in x = elim x.tag.what [
   | what.Visited k ↦ Some (record { op = k; results = by.Visit (marks_in x.load) })
