@@ -119,7 +119,7 @@ called_one d (c ∷ cs) some = at (c.device == d) refl (omega (arith, some, sum_
     at false e some go = let rest = go (omega (arith, some)) in (suc rest.0, rest.1, rest.2, rest.3)
 
 -- a thread whose callback came had begun
-stood_began : (s : Script) (t : ℕ) (l : Log) (k : ℕ) (c : Called) → callback_stood s t l k c ≡ true → list_any (says (is_on s t c.device) is_began) (steps l) ≡ true
+pub stood_began : (s : Script) (t : ℕ) (l : Log) (k : ℕ) (c : Called) → callback_stood s t l k c ≡ true → list_any (says (is_on s t c.device) is_began) (steps l) ≡ true
 stood_began s t l k c e =
     let p = and_parts (list_all (made_before c.at) (take k (steps l)) && list_all (made_behind c.at) (drop k (steps l)) && list_any (says (is_on s t c.device) is_began) (take k (steps l))) (is_none (held (is_on s t c.device) c.device (reverse (take k (steps l))))) e in
     let q = and_parts (list_all (made_before c.at) (take k (steps l)) && list_all (made_behind c.at) (drop k (steps l))) (list_any (says (is_on s t c.device) is_began) (take k (steps l))) p.0 in
