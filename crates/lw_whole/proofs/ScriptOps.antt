@@ -17,17 +17,17 @@ use Rattle.lw_whole.proofs.Access.{get_within}
 
 -- ---- the ops of a client among all
 
-all_left : {X : Type 0} (P : X → Type 0) (xs ys : List X) → AllByRecursion P (xs ++ ys) → AllByRecursion P xs × AllByRecursion P ys
-all_left P [] ys h = (tt, h)
-all_left P (x ∷ xs) ys h = let rest = all_left P xs ys h.1 in ((h.0, rest.0), rest.1)
+pub all_parts : {X : Type 0} (P : X → Type 0) (xs ys : List X) → AllByRecursion P (xs ++ ys) → AllByRecursion P xs × AllByRecursion P ys
+all_parts P [] ys h = (tt, h)
+all_parts P (x ∷ xs) ys h = let rest = all_parts P xs ys h.1 in ((h.0, rest.0), rest.1)
 
 in_flat : {X Y : Type 0} (P : Y → Type 0) (f : X → List Y) (xs : List X) (k : ℕ) (x : X) → AllByRecursion P (flat_map f xs) → slice_get xs k ≡ Some x → AllByRecursion P (f x)
 in_flat P f [] k x h e = cc
-in_flat P f (y ∷ xs) zero x h e = subst (λ z. AllByRecursion P (f z)) (same e) (all_left P (f y) (flat_map f xs) h).0
+in_flat P f (y ∷ xs) zero x h e = subst (λ z. AllByRecursion P (f z)) (same e) (all_parts P (f y) (flat_map f xs) h).0
   where
     same : Some y ≡ Some x → y ≡ x
     same e = cc
-in_flat P f (y ∷ xs) (suc k) x h e = in_flat P f xs k x (all_left P (f y) (flat_map f xs) h).1 e
+in_flat P f (y ∷ xs) (suc k) x h e = in_flat P f xs k x (all_parts P (f y) (flat_map f xs) h).1 e
 
 numbered_get : {X : Type 0} (n : ℕ) (xs : List X) (k : ℕ) (x : X) → slice_get xs k ≡ Some x → (m : ℕ) × (slice_get (enumerate_from n xs) k ≡ Some (m, x))
 numbered_get n [] k x e = cc
