@@ -58,6 +58,10 @@ past_get [] k h = refl
 past_get (x ∷ xs) zero h = absurd (omega (arith, h))
 past_get (x ∷ xs) (suc k) h = past_get xs k (omega (arith, h))
 
+pub no_items : {X : Type 0} (xs : List X) → length xs ≡ 0 → xs ≡ []
+no_items [] e = refl
+no_items (x ∷ xs) e = absurd (omega (arith, e))
+
 pub client_within : (s : Script) (t : ℕ) → is_client s t ≡ true → t < thread_count s
 client_within s t c = omega (arith, leb-true t (length s.clients) (and_parts (nat_lt 0 t) (nat_le t (length s.clients)) c).1)
 

@@ -22,6 +22,7 @@ use Rattle.lw_model.proofs.Passing.{item_passes}
 use Rattle.lw_whole.specs.Logs.{Log, steps, steps_with_past}
 use Rattle.lw_whole.specs.Lines.{made_before, made_behind, stays_shut, callback_stood}
 use Rattle.lw_whole.proofs.Steps.{steps_are, any_without, Stands, all_stand}
+use Rattle.lw_whole.proofs.ScriptOps.{all_parts}
 use Rattle.lw_whole.proofs.OwnSorted.{key, Sorted, own_sorted}
 
 -- ---- what stood when a callback came is what stands before it, but for lines that need no channel
@@ -133,10 +134,6 @@ behind_began s t d past (x ∷ xs) ys told e =
 
 -- ---- the rule
 
-all_first : {X : Type 0} (P : X → Type 0) (xs ys : List X) → AllByRecursion P (xs ++ ys) → AllByRecursion P xs
-all_first P [] ys h = tt
-all_first P (x ∷ xs) ys h = (h.0, all_first P xs ys h.1)
-
 before_all : (a : ℕ) (ys : List Step) → AllByRecursion (λ y. key y ≤ 3 * a + 1) ys → list_all (made_before a) ys ≡ true
 before_all a [] h = refl
 before_all a (step.Did i x ∷ ys) h = and_from (nat_le x.at a) (list_all (made_before a) ys) (le-leb x.at a (omega (arith, h.0))) (before_all a ys h.1)
@@ -197,7 +194,7 @@ module _ (r : Record) (t : ℕ) (l : Log) where
       let closed = behind_began r.script t c.device [] (take k done) (drop k done ++ later) (or_left (list_any (says (on c.device) is_began) (take k done)) false began) (ap (λ xs. list_all (λ p. stays_shut r.script t c.device p.0 p.1) (with_past [] xs)) (sym parts) ∙ shut) in
       let behind : list_all (made_behind c.at) (drop k done) ≡ true = last_too (made_behind c.at) k done later (ap (λ xs. list_all (made_behind c.at) (drop k xs)) (sym split) ∙ b.1) in
       let base : held (on c.device) c.device (reverse (take k done)) ≡ None = ap (λ xs. held (on c.device) c.device (reverse xs)) (sym first) ∙ none_is (held (on c.device) c.device (reverse (take k (steps l)))) p.1 in
-      let keeps = keeps_all c.device c.at (drop k done) (part_of (made_before c.at) k done all) behind (all_first (λ x. says (on c.device) needs_open x ≡ false) (drop k done) later closed) in (
+      let keeps = keeps_all c.device c.at (drop k done) (part_of (made_before c.at) k done all) behind (all_parts (λ x. says (on c.device) needs_open x ≡ false) (drop k done) later closed).0 in (
         any_reverse (says (on c.device) is_began) done (ap (list_any (says (on c.device) is_began)) (sym (both_parts k done)) ∙ any_first (says (on c.device) is_began) (take k done) (drop k done) began),
         ap (λ xs. held (on c.device) c.device (reverse xs)) (sym (both_parts k done)) ∙ ap (held (on c.device) c.device) (reverse-append (take k done) (drop k done)) ∙ held_more (on c.device) c.device (drop k done) (reverse (take k done)) base keeps,
       )

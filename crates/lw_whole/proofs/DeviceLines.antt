@@ -27,7 +27,7 @@ use Rattle.lw_whole.specs.Letters.{Note}
 use Rattle.lw_whole.specs.Logs.{Log, steps}
 use Rattle.lw_whole.specs.Notes.{count_begun, begun_in, times}
 use Rattle.lw_whole.specs.WholeRun.{IsWholeRun}
-use Rattle.lw_whole.proofs.Access.{of_log, log_of, ended}
+use Rattle.lw_whole.proofs.Access.{of_log, log_of, ended, no_items}
 use Rattle.lw_whole.proofs.Steps.{steps_are}
 use Rattle.lw_whole.proofs.Flow.{sum_below, sum_same, sum_has}
 use Rattle.lw_whole.proofs.TokenRuns.{length_append, count_of, count_in_order, count_of-append}
@@ -119,7 +119,7 @@ called_one d (c ∷ cs) some = at (c.device == d) refl (omega (arith, some, sum_
     at false e some go = let rest = go (omega (arith, some)) in (suc rest.0, rest.1, rest.2, rest.3)
 
 -- a thread whose callback came had begun
-stood_began : (s : Script) (t : ℕ) (l : Log) (k : ℕ) (c : Called) → callback_stood s t l k c ≡ true → list_any (says (is_on s t c.device) is_began) (steps l) ≡ true
+pub stood_began : (s : Script) (t : ℕ) (l : Log) (k : ℕ) (c : Called) → callback_stood s t l k c ≡ true → list_any (says (is_on s t c.device) is_began) (steps l) ≡ true
 stood_began s t l k c e =
     let p = and_parts (list_all (made_before c.at) (take k (steps l)) && list_all (made_behind c.at) (drop k (steps l)) && list_any (says (is_on s t c.device) is_began) (take k (steps l))) (is_none (held (is_on s t c.device) c.device (reverse (take k (steps l))))) e in
     let q = and_parts (list_all (made_before c.at) (take k (steps l)) && list_all (made_behind c.at) (drop k (steps l))) (list_any (says (is_on s t c.device) is_began) (take k (steps l))) p.0 in
@@ -146,10 +146,6 @@ began_counted on (step.Ran i m ∷ ss) e = began_counted on ss e
 
 none_begun : (m : Note) → m.begun ≡ 0 → begun_in m ≡ []
 none_begun m e = ap (λ b. cond b [] (m.count ∷ [])) (eq-eqb m.begun 0 e)
-
-empty : {X : Type 0} (xs : List X) → length xs ≡ 0 → xs ≡ []
-empty [] e = refl
-empty (x ∷ xs) e = absurd (omega (arith, e))
 
 just_one : (t : ℕ) (us : List ℕ) → AllByRecursion (λ u. u ≡ t) us → length us ≡ 1 → us ≡ t ∷ []
 just_one t [] h e = absurd (omega (arith, e))
@@ -288,6 +284,6 @@ module _ (r : Record) (logs : List Log) (whole : IsWholeRun r logs) (d : ℕ) (d
   called_once =
       let here = called_of who.thread who.within in
       flat_only (λ t. filter_map (called_on r d t) (own_order_of r t)) 0 n who.thread (omega arith) (omega (arith, who.within))
-      (λ t low high other. let there = called_of t (omega (arith, high)) in empty (filter_map (called_on r d t) (own_order_of r t)) (omega (arith, there.1, none_fired t (omega (arith, high)) other)))
+      (λ t low high other. let there = called_of t (omega (arith, high)) in no_items (filter_map (called_on r d t) (own_order_of r t)) (omega (arith, there.1, none_fired t (omega (arith, high)) other)))
       ∙ just_one who.thread (filter_map (called_on r d who.thread) (own_order_of r who.thread)) here.0 (omega (arith, here.1, one_fired))
       ∙ ap (λ t. t ∷ []) (thread_is r logs whole d device)

@@ -39,6 +39,8 @@ pub mod WhoBegan
 pub mod DeviceLines
 pub mod Devices
 pub mod NineRules
+pub mod ScriptOps
+pub mod HasText
 pub mod Premises
 pub mod Sames
 pub mod SendTests

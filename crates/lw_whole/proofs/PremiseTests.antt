@@ -23,7 +23,7 @@ use Rattle.lw_whole.specs.Logs.{Log, addressed, steps, steps_with_past}
 use Rattle.lw_whole.specs.Notes.{note_at, begun_in, count_begun, rows_in, joined, knows_open, times, notes_of}
 use Rattle.lw_whole.specs.Lines.{ats_ascend, client_line_fits, app_line_fits, stays_shut, callback_stood, reply_in, results_in}
 use Rattle.lw_whole.specs.WholeRun.{Taken, is_for, was_sent}
-use Rattle.lw_whole.proofs.Access.{in_range}
+use Rattle.lw_whole.proofs.Access.{in_range, no_items}
 use Rattle.lw_whole.proofs.Computed.{runs_of, sends_to, senders_are_threads, all_numbered, all_true, run_from, all_numbered_from}
 use Rattle.lw_whole.proofs.Sames.{same_list, tells_list, same_numbers, tells_numbers, same_tag, tells_tag, same_row, tells_row, same_load, tells_load, same_letter, tells_letter, same_sends, tells_sends}
 use Rattle.lw_whole.proofs.SendTests.{sends_along, sends_along_is}
@@ -152,11 +152,7 @@ test_is the.app_count r logs taken e = logs_are _ _ (λ t l f z. eqb-true _ _ (s
 test_is the.app_lines r logs taken e = logs_are _ _ (λ t l f z. so (t == 0) _ f z) logs e
 test_is the.took_in r logs taken e = logs_are _ _ (λ t l f z. tells_row _ _ (so (t == 0) _ f z)) logs e
 test_is the.knew r logs taken e = logs_are _ _ (λ t l f z. so (t == 0) _ f z) logs e
-test_is the.owner_lines r logs taken e = logs_are _ _ (λ t l f z c. empty l.lines.did (eqb-true _ _ (unless (is_client r.script t) _ (unless (t == 0) _ f z) c))) logs e
-  where
-    empty : {X : Type 0} (xs : List X) → length xs ≡ 0 → xs ≡ []
-    empty [] e = refl
-    empty (x ∷ xs) e = absurd (omega (arith, e))
+test_is the.owner_lines r logs taken e = logs_are _ _ (λ t l f z c. no_items l.lines.did (eqb-true _ _ (unless (is_client r.script t) _ (unless (t == 0) _ f z) c))) logs e
 test_is the.owner_row r logs taken e = logs_are _ _ (λ t l f z c. tells_row _ _ (unless (is_client r.script t) _ (unless (t == 0) _ f z) c)) logs e
 test_is the.run_is_sent r logs taken e =
     let h = and_parts (same_list (same_list (same_list same_letter)) (runs_of logs) (sends_to logs)) (senders_are_threads logs) e in

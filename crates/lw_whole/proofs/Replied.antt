@@ -37,7 +37,7 @@ use Rattle.lw_whole.proofs.Plain.{NoneOf, none_of}
 use Rattle.lw_whole.proofs.Replying.{is_reply, reply_of_owner, step_answers, count_asked, some_asked, reply_found, owner_steps}
 
 -- the last messages are no replies
-last_none : (s : Script) (t : ℕ) → NoneOf is_reply (sent_last s t)
+pub last_none : (s : Script) (t : ℕ) → NoneOf is_reply (sent_last s t)
 last_none s t = at (is_client s t) (t == 0)
   where
     stops : (ds : List ℕ) → NoneOf is_reply (map (λ d. (owner_of s d, what.Stop)) ds)

@@ -1,6 +1,6 @@
 -- A whole run with a visit past a client that has exited, and a cast over five threads.
 use Rattle.std.proofs.Common.{List, [], ◌∷◌, refl, arith, inl, inr}
-use Rattle.std.proofs.lemmas.Bool.{false≢true}
+use Rattle.std.proofs.lemmas.Bool.{false≢true, true≢false}
 use Rattle.lw_base.specs.declared.message.What.TheVariants as what
 use Rattle.lw_model.specs.declared.record.Answer.TheVariants as answer
 use Rattle.lw_model.specs.Devices.{device_at}
@@ -9,7 +9,7 @@ use Rattle.lw_model.proofs.Verdicts.{visit_and_cast-lawful}
 use Rattle.lw_whole.specs.Letters.{marked, reached}
 use Rattle.lw_whole.specs.Logs.{Log}
 use Rattle.lw_whole.specs.Notes.{idle, note_at, notes_of}
-use Rattle.lw_whole.specs.Threads.{Ended}
+use Rattle.lw_whole.specs.Threads.{Ended, AllEnded}
 use Rattle.lw_whole.specs.WholeRun.{IsWholeRun}
 use Rattle.lw_whole.proofs.Computed.{rings_from, note_from, settled_from}
 use Rattle.lw_whole.proofs.Parts.{letter, plain, done_of, given, unregistered, app_log_of, client_log, owner_log}
@@ -132,4 +132,23 @@ visit_and_cast-whole = record {
   };
   rounds = visit_and_cast-lawful.rounds_and_orders;
   pool = record { small = refl; large = refl };
+}
+
+-- and its threads are such that they have a text
+pub visit_and_cast-ended : AllEnded visit_and_cast.script logs
+visit_and_cast-ended = record {
+  accepted = refl;
+  count = refl;
+  roles = (
+    record { role = refl; replies = λ e. refl; seen = λ e. refl },
+    (
+      record { role = refl; replies = λ e. absurd (true≢false e); seen = λ e. absurd (true≢false e) },
+      (
+        record { role = refl; replies = λ e. absurd (true≢false e); seen = λ e. absurd (true≢false e) },
+        (record { role = refl; replies = λ e. absurd (true≢false e); seen = λ e. absurd (true≢false e) }, (record { role = refl; replies = λ e. refl; seen = λ e. refl }, tt)),
+      ),
+    ),
+  );
+  each = visit_and_cast-whole.each;
+  rings = visit_and_cast-whole.rings;
 }

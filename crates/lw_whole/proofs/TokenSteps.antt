@@ -1,5 +1,5 @@
 -- Where a token was started or run once, the step that did so sent all that became of it.
-use Rattle.std.proofs.Common.{◌≡◌, ℕ, ◌+◌, ◌≤◌, Bool, true, cond, List, [], ◌∷◌, ◌++◌, length, append_assoc, append-nil, refl, sym, ap, ap₂, ◌∙◌, arith}
+use Rattle.std.proofs.Common.{◌≡◌, ℕ, ◌+◌, ◌≤◌, Bool, true, cond, List, [], ◌∷◌, ◌++◌, length, append_assoc, append-nil, sym, ap, ap₂, ◌∙◌, arith}
 use Rattle.lw_base.specs.declared.message.What.{What}
 use Rattle.lw_model.specs.declared.script.Script.{Script}
 use Rattle.lw_model.specs.declared.step.Step.{Step}
@@ -7,6 +7,7 @@ use Rattle.lw_model.specs.OwnOrder.{with_past}
 use Rattle.lw_whole.specs.Letters.{Letter}
 use Rattle.lw_whole.specs.Logs.{Log}
 use Rattle.lw_whole.specs.Sends.{SentBy, SentAlong}
+use Rattle.lw_whole.proofs.Access.{no_items}
 use Rattle.lw_whole.proofs.TokenCounts.{dests, outs}
 use Rattle.lw_whole.proofs.TokenRuns.{length_append, count_of, few_out}
 
@@ -17,10 +18,6 @@ pub record Left (p : Step → Bool) (n : ℕ) (w : What) (whole : List ℕ) (tot
   pub whole_is : whole ≡ before ++ outs p n w (with_past past rest) sends
   pub few : length before ≤ counted
   pub counts : counted + count_of p rest ≡ total
-
-nil : {X : Type 0} (xs : List X) → length xs ≤ 0 → xs ≡ []
-nil [] h = refl
-nil (x ∷ xs) h = absurd (omega (arith, h))
 
 module _ (s : Script) (t : ℕ) (l : Log) (p : Step → Bool) (n : ℕ) (w : What)
     (few : (past : List Step) (x : Step) (now : List (ℕ × Letter)) → SentBy s t l past x now → length (cond (p x) (dests n w now) []) ≤ cond (p x) 1 0) where
@@ -40,8 +37,8 @@ module _ (s : Script) (t : ℕ) (l : Log) (p : Step → Bool) (n : ℕ) (w : Wha
       → (whole ≡ dests n w now) × (length (dests n w now) ≡ 1)
   only_now whole total past x rest now sends h is one full g =
       let one_here = ap {B = ℕ} (λ b. cond b 1 0) is in
-      let first = nil g.before (omega (arith, g.few, g.counts, one, one_here)) in
-      let last = nil (outs p n w (with_past (x ∷ past) rest) sends) (omega (arith, few_out s t l p n w few (x ∷ past) rest sends h.1, g.counts, one, one_here)) in
+      let first = no_items g.before (omega (arith, g.few, g.counts, one, one_here)) in
+      let last = no_items (outs p n w (with_past (x ∷ past) rest) sends) (omega (arith, few_out s t l p n w few (x ∷ past) rest sends h.1, g.counts, one, one_here)) in
       let same : whole ≡ dests n w now
       = g.whole_is ∙ ap (λ b. g.before ++ (cond b (dests n w now) [] ++ outs p n w (with_past (x ∷ past) rest) sends)) is
       ∙ ap₂ (λ xs ys. xs ++ (dests n w now ++ ys)) first last ∙ append-nil (dests n w now) in

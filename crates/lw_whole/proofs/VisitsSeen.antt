@@ -58,7 +58,7 @@ visit_image s zero k d c e = absurd (false≢true c)
 visit_image s (suc a) k d c e = ap (option_and_then image_of) (visit_op (suc a) k d (op_at s (suc a) k) e)
 
 -- a message among these is one of the one
-among_is : (o : ℕ) (x : Letter) (now : List (ℕ × Letter)) → Among (IsTo o (λ y. y ≡ x)) now → Among (IsTo o (λ y. y.tag.what ≡ x.tag.what)) now
+pub among_is : (o : ℕ) (x : Letter) (now : List (ℕ × Letter)) → Among (IsTo o (λ y. y ≡ x)) now → Among (IsTo o (λ y. y.tag.what ≡ x.tag.what)) now
 among_is o x [] g = g
 among_is o x (p ∷ now) (inl is) = inl (is.0, ap (λ (y : Letter). y.tag.what) is.1)
 among_is o x (p ∷ now) (inr g) = inr (among_is o x now g)

@@ -3,4 +3,4 @@
 
 mod lawful;
 
-pub use lawful::whole_runs_are_lawful;
+pub use lawful::{threads_have_a_text, whole_runs_are_lawful};
