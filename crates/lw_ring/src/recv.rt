@@ -233,8 +233,8 @@ impl<T: Tagged + Drop> RecvEnd<T> {
     /// one by one, and what goes past `max` stays in hand. There are fewer than `max` only where nothing is in hand and the
     /// queue was empty at a moment of the call. Each message fits the ring, and its tag names one of the ring's senders.
     ///
-    /// That a waiting message is taken is shown by tests alone: a look at an empty queue, which is three loads, leaves no
-    /// mark that a clause could name.
+    /// That a waiting message is taken is shown by tests alone: a look at an empty queue, which is two loads, leaves no mark
+    /// that a clause could name.
     pub fn take_into<R: Wait>(&mut self, rt: &R, max: usize, batch: &mut Vec<T>)
         requires room { (batch.old.items ≡ []) × (max ≤ vec_capacity batch.old) }
         requires not_closed { self.old.closed ≡ 0 }
