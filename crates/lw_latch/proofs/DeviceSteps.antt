@@ -124,7 +124,7 @@ gives_one all s id v n m c h at unshut some_seat free room is next =
     times_snoc k m [] = ((λ e. ap (λ b. (if b then 1 else 0) + 0) (eq-eqb m k (sym e))), λ e. ap (λ b. (if b then 1 else 0) + 0) (ne_eqb m k (λ z. e (sym z))))
     times_snoc k m (x ∷ xs) = let r = times_snoc k m xs in ((λ e. (let a = r.0 e in omega arith)), λ e. (let a = r.1 e in omega arith))
 
-pub gives : (all slots id : ℕ) (me : Sat) → 1 ≤ me.0.seats → me.0.channel ≡ 0 → me.0.backing ≡ 0 → me.0.gives < 2 ^ 38
+pub gives : (all slots id : ℕ) (me : Sat) → 1 ≤ me.0.seats → me.0.channel ≡ 0 → me.0.backing ≡ 0 → me.0.gives < most_gives
     → Allows (Tied all) slots id me latch_word (λ n. (n + giving) % 2 ^ 64) (Gives (step slots latch_word giving 0 none) me)
 gives all slots id me some_seat free idle room s h _ at small =
     let v = me.0 in
