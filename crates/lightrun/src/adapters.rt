@@ -44,6 +44,7 @@ impl<R: Read> Source for StdSource<R> {
                 Ok(count)
             }
             Err(_) => {
+                self.ended = true;
                 self.faults = self.faults.saturating_add(1);
                 Err(Failed)
             }

@@ -1,6 +1,7 @@
 //! What the process brings and takes: the words of its command line, clocks and its exit status.
 ghost use Rattle.std.specs.Prelude.{◌≡◌, ◌⊎◌, drop, vec_len, IfOk, IfErr};
 ghost use Rattle.std.specs.Process.{exit_status};
+ghost use Rattle.std.specs.Vec.Iter.{into_iter_items};
 ghost use Rattle.lw_program.specs.declared.fault.Fault.TheVariants as fault;
 
 use crate::adapters::TickClock;
@@ -26,7 +27,10 @@ pub fn args_of<R: env::Env + Alloc<A = Global>>(rt: &R) -> Result<Vec<String>, F
     }
 }
 
-fn collected(alloc: Global, args: env::Args) -> Result<Vec<String>, NoMemory> {
+// The arguments that are left to give, in their order.
+fn collected(alloc: Global, args: env::Args) -> Result<Vec<String>, NoMemory>
+    ensures { IfOk result (λ words. words.items ≡ into_iter_items args) }
+{
     args.collect(alloc)
 }
 

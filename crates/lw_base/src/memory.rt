@@ -1,5 +1,5 @@
 //! The outside in memory: for tests, and for callers that have the whole text.
-ghost use Rattle.std.specs.Prelude.{◌≡◌, ◌+◌, ◌-◌, ◌<◌, ◌≤◌, ◌==◌, false, [], ◌∷◌, ◌++◌, length, take, drop, min, Ok, Err, Some, IfOk, OnOk, OnErr, IfSome, IsErr, Contains, vec_len, vec_capacity};
+ghost use Rattle.std.specs.Prelude.{◌≡◌, ◌+◌, ◌-◌, ◌<◌, ◌≤◌, ◌==◌, false, true, [], ◌∷◌, ◌++◌, length, take, drop, min, Ok, Err, Some, IfOk, OnOk, OnErr, IfSome, IsErr, Contains, vec_len, vec_capacity};
 ghost use Rattle.lw_base.specs.Outside.{Rose, Continues, HasGiven, HasTaken};
 ghost use Rattle.lw_base.specs.Memory.{counted, fails_at, list_readings, reading_at, unless_it_fails, unless_nothing};
 
@@ -16,7 +16,7 @@ pub struct MemSource {
     pub bytes: Vec<u8>,
     /// How many of the bytes were read.
     pub read: usize,
-    /// Whether it has answered its end.
+    /// Whether a call has answered the end, or has failed.
     pub ended: bool,
     pub piece: usize,
     pub fails: Vec<u64>,
@@ -71,7 +71,7 @@ impl Source for MemSource {
         ensures steady { self.old.faults ≤ self.new.faults }
         ensures failed { OnErr result (Rose self.old.faults self.new.faults
             × (drop self.new.read self.new.bytes.items ≡ drop self.old.read self.old.bytes.items)) }
-        ensures still { OnErr result (self.new.ended ≡ self.old.ended) }
+        ensures stops { OnErr result (self.new.ended ≡ true) }
         ensures moved { IfOk result (λ n. self.new.read ≡ self.old.read + n) }
         ensures unmoved { OnErr result ((self.new.read ≡ self.old.read) × (into.new ≡ into.old)) }
         ensures fault { OnErr result (self.new.faults ≡ counted self.old.faults) }
@@ -79,6 +79,7 @@ impl Source for MemSource {
         ensures kept { (self.new.bytes ≡ self.old.bytes) × (self.new.piece ≡ self.old.piece) × (self.new.fails ≡ self.old.fails) }
     {
         if fails_now(&mut self.calls, &self.fails) {
+            self.ended = true;
             self.faults = self.faults.saturating_add(1);
             return Err(Failed);
         }

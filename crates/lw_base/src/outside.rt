@@ -1,5 +1,5 @@
 //! The outside of a run: where bytes come from and go to, clocks, and a gate that a test can hold.
-ghost use Rattle.std.specs.Prelude.{◌≡◌, ◌<◌, ◌≤◌, ◌==◌, false, [], ◌∷◌, length, take, IfOk, OnOk, OnErr, IfSome};
+ghost use Rattle.std.specs.Prelude.{◌≡◌, ◌<◌, ◌≤◌, ◌==◌, false, true, [], ◌∷◌, length, take, IfOk, OnOk, OnErr, IfSome};
 ghost use Rattle.lw_base.specs.Outside.{Rose, Continues, HasGiven, HasTaken};
 
 use crate::names::{Failed, Tick};
@@ -11,15 +11,16 @@ pub trait Source {
     // What is left to read, where the source tells it.
     ghost left: { Self → Option (List ℕ) };
 
-    // Whether it has answered its end. Nobody reads on behind that.
+    // Whether a read has answered the end, or has failed. Nobody reads on behind that.
     ghost ended: { Self → Bool };
 
     // How often it has failed. The count stands still at the greatest u64.
     ghost faults: { Self → ℕ };
 
-    /// Reads the next bytes into the front of `into`, and answers how many: 0 exactly at the end, which is answered once.
+    /// Reads the next bytes into the front of `into`, and answers how many: 0 exactly at the end.
     ///
-    /// A call that failed has read nothing, and only such a call is counted as a fault.
+    /// A call that failed has read nothing, and only such a call is counted as a fault. The end, or a fault, is answered
+    /// once: a source isn't read behind it.
     fn read(&mut self, into: &mut [u8]) -> Result<usize, Failed>
         requires room { 0 < length into.old }
         requires goes_on { ended self.old ≡ false }
@@ -30,7 +31,7 @@ pub trait Source {
         ensures sound { OnOk result (faults self.new ≡ faults self.old) }
         ensures steady { faults self.old ≤ faults self.new }
         ensures failed { OnErr result (Rose (faults self.old) (faults self.new) × (left self.new ≡ left self.old)) }
-        ensures still { OnErr result (ended self.new ≡ ended self.old) };
+        ensures stops { OnErr result (ended self.new ≡ true) };
 }
 
 /// Where bytes go.

@@ -1,5 +1,5 @@
 -- How the program ends, from how its command ends.
-use Rattle.std.proofs.Common.{◌≡◌, ◌≤◌, ℕ, Bool, true, false, nat_lt, if◌then◌else◌, List, length, Option, Some, None, Result, Ok, Err, IfOk, arith, refl, sym, subst}
+use Rattle.std.proofs.Common.{◌≡◌, ◌+◌, ◌≤◌, ℕ, Bool, true, false, nat_lt, if◌then◌else◌, List, length, Option, Some, None, Result, Ok, Err, IfOk, arith, refl, sym, subst}
 use Rattle.std.specs.declared.alloc.AllocError.{AllocError}
 use Rattle.lw_base.specs.Outside.{HasTaken}
 use Rattle.lw_model.specs.declared.record.Record.{Record}
@@ -10,19 +10,19 @@ use Rattle.lw_program.specs.declared.fault.Fault.TheVariants.{Usage, Script, Wal
 use Rattle.lw_program.specs.declared.words.CommandLine.{CommandLine}
 use Rattle.lw_program.specs.declared.words.CommandLine.TheVariants as command
 use Rattle.lw_program.specs.Limits.{script_limit, walk_limit}
-use Rattle.lw_program.specs.Bytes.{HasTakenPart}
+use Rattle.lw_program.specs.Bytes.{HasTakenPart, IsReadWithin}
 use Rattle.lw_program.specs.Outside.{Outside}
 use Rattle.lw_program.specs.Commands.{EndsCommand}
 use Rattle.lw_program.specs.Runs.{run_command}
 use Rattle.lw_program.specs.Walks.{walk_command}
 use Rattle.lw_program.specs.Checks.{check_command}
-use Rattle.lw_program.specs.Ends.{Ends, EndsAsked}
+use Rattle.lw_program.specs.Ends.{Ends, EndsAsked, limit_of, limit_asked}
 use Rattle.lw_script.proofs.Accepted.{within_limit}
 use Rattle.std.proofs.lemmas.Bool.{ltb-false}
 use Rattle.lw_base.specs.TextLines.{pieces}
 use Rattle.lw_walk.specs.Walk.{walk_bad_line}
 use Rattle.lw_walk.specs.WalkForm.{bad_line}
-use Rattle.lw_program.proofs.Streams.{to_end}
+use Rattle.lw_program.proofs.Streams.{to_end, at_most-none}
 
 -- a walk without a bad line is within the limit
 walk_few : (bytes : List ℕ) → walk_bad_line bytes ≡ None → length bytes ≤ walk_limit
@@ -76,7 +76,7 @@ module _ (o : Outside) where
     a.well,
   )
   run_ends options (Some Usage) told e = absurd e.2
-  run_ends options (Some ReadFault) told e = ((e.0, e.1), e.2, tt)
+  run_ends options (Some ReadFault) told (none, same, e) = ((none, same), e.1, tt)
   run_ends options (Some NoMemory) told e = ((e.0, e.1), e.2)
   run_ends options (Some (Script r)) told (none, same, f) = ((none, same), record { bytes = f.bytes; the = r; read = f.got; fault_is = refl; refused = f.refused.1; not_memory = f.refused.0 }, f.well)
   run_ends options (Some (Walk line)) told (none, same, f) = absurd f.refused
@@ -108,7 +108,7 @@ module _ (o : Outside) where
     a.well,
   )
   walk_ends (Some Usage) told answer unsaid e = absurd e.2
-  walk_ends (Some ReadFault) told answer unsaid e = ((unsaid, e.1), e.2, tt)
+  walk_ends (Some ReadFault) told answer unsaid (none, same, e) = ((unsaid, same), e.1, tt)
   walk_ends (Some NoMemory) told answer unsaid e = ((unsaid, e.1), e.2)
   walk_ends (Some (Script r)) told answer unsaid (none, same, f) = absurd f.refused
   walk_ends (Some (Walk line)) told answer unsaid (none, same, f) = ((unsaid, same), record { bytes = f.bytes; line = line; read = f.got; fault_is = refl; refused = f.refused }, f.well)
@@ -138,7 +138,7 @@ module _ (o : Outside) where
     a.well,
   )
   check_ends (Some Usage) told answer unsaid e = absurd e.2
-  check_ends (Some ReadFault) told answer unsaid e = ((unsaid, e.1), e.2, tt)
+  check_ends (Some ReadFault) told answer unsaid (none, same, e) = ((unsaid, same), e.1, tt)
   check_ends (Some NoMemory) told answer unsaid e = ((unsaid, e.1), e.2)
   check_ends (Some (Script r)) told answer unsaid (none, same, f) = absurd f.refused
   check_ends (Some (Walk line)) told answer unsaid (none, same, f) = absurd f.refused
@@ -149,6 +149,14 @@ module _ (o : Outside) where
       → (o.unread → o.read_faults_after ≡ o.read_faults) → IfOk found (λ c. c ≡ asked) → EndsAsked found o fault told → Ends asked o fault told
   ends_asked (Ok c) asked fault told still is e = subst (λ a. Ends a o fault told) is e
   ends_asked (Err lack) asked fault told still is (at, silent, unread) = subst (λ (f : Option Fault). Ends asked o f told) (sym at) (silent, still unread)
+
+  -- where there was no memory to read the words, nothing is read
+  pub within_asked : (found : Result (Option CommandLine) AllocError) (asked : Option CommandLine) (fault : Option Fault) (told : Option Record)
+      → (o.unread → o.left_after ≡ o.left) → IfOk found (λ c. c ≡ asked) → EndsAsked found o fault told
+      → IfOk found (λ c. IsReadWithin (limit_asked c) o.left o.left_after o.unread) → IsReadWithin (limit_asked asked) o.left o.left_after o.unread
+  within_asked (Ok c) asked fault told still is e within = subst (λ a. IsReadWithin (limit_asked a) o.left o.left_after o.unread) is within
+  within_asked (Err lack) None fault told still is (at, silent, unread) within = unread
+  within_asked (Err lack) (Some c) fault told still is (at, silent, unread) within = at_most-none (limit_of c + 1) o.left o.left_after (still unread)
 
   -- the command is this one, and ended so
   as_asked : (d e : CommandLine) (fault fault' : Option Fault) (told told' : Option Record) → d ≡ e → fault' ≡ fault → told' ≡ told → Ends (Some e) o fault told → Ends (Some d) o fault' told'

@@ -41,15 +41,15 @@ module _ (asked : Option CommandLine) (o : Outside) where
   done (Some WriteFault) told e h = let x : 4 ≡ 0 = h in absurd (omega (arith, x))
   done (Some NoMemory) told e h = let x : 5 ≡ 0 = h in absurd (omega (arith, x))
 
-  pub write_fault : (fault : Option Fault) (told : Option Record) → Ends asked o fault told → end_status fault ≡ 4 → IsCutShort asked o told
-  write_fault None told e h = let x : 0 ≡ 4 = h in absurd (omega (arith, x))
-  write_fault (Some Usage) told e h = let x : 1 ≡ 4 = h in absurd (omega (arith, x))
-  write_fault (Some (Script r)) told e h = let x : 2 ≡ 4 = h in absurd (omega (arith, x))
-  write_fault (Some (Walk line)) told e h = let x : 2 ≡ 4 = h in absurd (omega (arith, x))
-  write_fault (Some (Unlawful clause line)) told e h = let x : 6 ≡ 4 = h in absurd (omega (arith, x))
-  write_fault (Some ReadFault) told e h = let x : 3 ≡ 4 = h in absurd (omega (arith, x))
-  write_fault (Some WriteFault) told e h = e.0
-  write_fault (Some NoMemory) told e h = let x : 5 ≡ 4 = h in absurd (omega (arith, x))
+  pub cut_short : (fault : Option Fault) (told : Option Record) → Ends asked o fault told → end_status fault ≡ 4 → IsCutShort asked o told
+  cut_short None told e h = let x : 0 ≡ 4 = h in absurd (omega (arith, x))
+  cut_short (Some Usage) told e h = let x : 1 ≡ 4 = h in absurd (omega (arith, x))
+  cut_short (Some (Script r)) told e h = let x : 2 ≡ 4 = h in absurd (omega (arith, x))
+  cut_short (Some (Walk line)) told e h = let x : 2 ≡ 4 = h in absurd (omega (arith, x))
+  cut_short (Some (Unlawful clause line)) told e h = let x : 6 ≡ 4 = h in absurd (omega (arith, x))
+  cut_short (Some ReadFault) told e h = let x : 3 ≡ 4 = h in absurd (omega (arith, x))
+  cut_short (Some WriteFault) told e h = e.0
+  cut_short (Some NoMemory) told e h = let x : 5 ≡ 4 = h in absurd (omega (arith, x))
 
   pub read_fault : (fault : Option Fault) (told : Option Record) → Ends asked o fault told → end_status fault ≡ 3 → Rose o.read_faults o.read_faults_after
   read_fault None told e h = let x : 0 ≡ 3 = h in absurd (omega (arith, x))

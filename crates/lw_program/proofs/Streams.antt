@@ -1,9 +1,9 @@
 -- Pieces of a source and of a sink, one behind the other.
-use Rattle.std.proofs.Common.{◌≡◌, ◌+◌, ◌-◌, ◌≤◌, ◌++◌, ℕ, List, [], length, take, drop, Option, Some, None, IfSome, arith, refl, ap, subst, sym, ◌∙◌, append_assoc, append-nil, take-add}
-use Rattle.std.proofs.lemmas.List.{take_all, drop_all, length-drop, length-take}
+use Rattle.std.proofs.Common.{◌≡◌, ◌+◌, ◌-◌, ◌≤◌, ◌++◌, ℕ, List, [], length, take, drop, Option, Some, None, IfSome, arith, refl, ap, subst, sym, ◌∙◌, append_assoc, append-nil, length-append, take-add}
+use Rattle.std.proofs.lemmas.List.{take_all, drop_all, length-drop, length-take, nil_from_length}
 use Rattle.std.proofs.Math.Seq.{take-append_seam, drop-append_seam, take-length}
 use Rattle.lw_base.specs.Outside.{HasGiven, HasTaken}
-use Rattle.lw_program.specs.Bytes.{IsReadUpTo, IsReadToEnd, bytes_read, GivesMore, HasTakenPart}
+use Rattle.lw_program.specs.Bytes.{IsReadUpTo, IsReadToEnd, bytes_read, GivesAtMost, GivesMore, HasTakenPart}
 
 -- ---- a source
 
@@ -34,8 +34,28 @@ gives_all (Some left) b c xs limit given last ended few =
     let fits : length left ≤ limit + 1 = subst (λ l. length l ≤ limit + 1) (sym whole) few in
     (sym whole ∙ sym (take_all (limit + 1) left fits), next.1 ∙ ap (λ r. Some r) (sym next.2 ∙ none ∙ sym (drop_all (limit + 1) left fits)))
 
+-- the same, where that read added nothing
+pub gives_all-next : (a b c : Option (List ℕ)) (old new : List ℕ) (limit : ℕ) → HasGiven a old b → GivesMore b old new c → length new ≡ length old → IfSome b (λ rest. rest ≡ []) → length old ≤ limit + 1
+    → IsReadUpTo limit a new c
+gives_all-next a b c old new limit first next same ended few =
+    let none : next.0 ≡ [] = nil_from_length next.0 (omega (arith, same, ap length next.1, length-append old next.0)) in
+    let is : new ≡ old = next.1 ∙ ap (λ r. old ++ r) none ∙ append-nil old in
+    subst (λ xs. IsReadUpTo limit a xs c) (sym is) (gives_all a b c old limit first (subst (λ r. HasGiven b r c) none next.2) ended few)
+
 pub given-next : (a b c : Option (List ℕ)) (xs ys : List ℕ) → HasGiven a xs b → GivesMore b xs ys c → HasGiven a ys c
 given-next a b c xs ys first next = subst (λ zs. HasGiven a zs c) (sym next.1) (given-more a b c xs next.0 first next.2)
+
+pub at_most-none : (most : ℕ) (a b : Option (List ℕ)) → b ≡ a → GivesAtMost most a b
+at_most-none most a b same = ([], omega arith, subst (λ o. HasGiven a [] o) (sym same) (given-none a))
+
+pub at_most-front : (a b : Option (List ℕ)) (n : ℕ) (xs : List ℕ) → HasGiven a (take n xs) b → GivesAtMost (length xs) a b
+at_most-front a b n xs given = (take n xs, omega (arith, length-take n xs), given)
+
+pub at_most-wider : (a b : Option (List ℕ)) (few most : ℕ) → GivesAtMost few a b → few ≤ most → GivesAtMost most a b
+at_most-wider a b few most given fits = (given.0, omega (arith, given.1, fits), given.2)
+
+pub at_most-more : (a b c : Option (List ℕ)) (xs : List ℕ) (room most : ℕ) → HasGiven a xs b → GivesAtMost room b c → length xs + room ≤ most → GivesAtMost most a c
+at_most-more a b c xs room most first next fits = (xs ++ next.0, omega (arith, length-append xs next.0, next.1, fits), given-more a b c xs next.0 first next.2)
 
 -- bytes within the limit are all
 pub to_end : (limit : ℕ) (a : Option (List ℕ)) (xs : List ℕ) (b : Option (List ℕ)) → IsReadUpTo limit a xs b → length xs ≤ limit → IsReadToEnd a xs b

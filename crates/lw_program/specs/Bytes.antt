@@ -6,6 +6,15 @@ use Rattle.lw_base.specs.Outside.{HasGiven}
 abbrev pub GivesMore : Option (List ℕ) → List ℕ → List ℕ → Option (List ℕ) → Type 0
 GivesMore before old new after = (more : List ℕ) × (new ≡ old ++ more) × HasGiven before more after
 
+-- the source has given at most so many bytes
+abbrev pub GivesAtMost : ℕ → Option (List ℕ) → Option (List ℕ) → Type 0
+GivesAtMost most before after = (bytes : List ℕ) × (length bytes ≤ most) × HasGiven before bytes after
+
+-- however reading ended, the source has given at most its first bytes up to one past the limit; with no limit it is unread
+abbrev pub IsReadWithin : Option ℕ → Option (List ℕ) → Option (List ℕ) → Type 0 → Type 0
+IsReadWithin None before after unread = unread
+IsReadWithin (Some limit) before after unread = GivesAtMost (limit + 1) before after
+
 -- the bytes read under a limit of a source that had these left: all of them, or the first ones up to one past the limit
 abbrev pub bytes_read : ℕ → List ℕ → List ℕ
 bytes_read limit left = take (limit + 1) left

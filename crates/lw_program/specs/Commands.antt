@@ -17,6 +17,11 @@ abbrev pub Gets : Option ℕ → Option (List ℕ) → List ℕ → Option (List
 Gets None left bytes after unread = (bytes ≡ []) × unread
 Gets (Some limit) left bytes after unread = IsReadUpTo limit left bytes after
 
+-- it reads the source
+abbrev pub HasLimit : Option ℕ → Type 0
+HasLimit None = ⊥
+HasLimit (Some limit) = Unit {0}
+
 -- the source didn't fail
 abbrev pub IsReadWell : Outside → Type 0
 IsReadWell o = o.read_faults_after ≡ o.read_faults
@@ -52,10 +57,10 @@ pub record IsRefusedBy {T : Type 0} (c : CommandOf T) (o : Outside) (fault : Fau
   pub well : IsReadWell o
   pub refused : c.refuses bytes fault
 
--- why there is nothing to write
+-- why there is nothing to write; a command that reads nothing never finds that the source failed
 abbrev pub ExplainsNone : {T : Type 0} → CommandOf T → Outside → Fault → Type 0
 ExplainsNone c o Usage = ⊥
-ExplainsNone c o ReadFault = Rose o.read_faults o.read_faults_after
+ExplainsNone c o ReadFault = HasLimit c.limit × Rose o.read_faults o.read_faults_after
 ExplainsNone c o WriteFault = ⊥
 ExplainsNone c o NoMemory = IsReadWell o
 ExplainsNone c o (Script refusal) = IsRefusedBy c o (Script refusal)

@@ -1,5 +1,5 @@
 -- How a call of the program ends, by the command that its words are, its fault and what the outside tells.
-use Rattle.std.specs.Prelude.{◌≡◌, ◌≢◌, ◌≤◌, ◌⊎◌, ℕ, List, length, Option, Some, None, Result, Ok, Err}
+use Rattle.std.specs.Prelude.{◌≡◌, ◌≢◌, ◌≤◌, ◌⊎◌, ℕ, List, length, Option, Some, None, option_map, Result, Ok, Err}
 use Rattle.std.specs.declared.alloc.AllocError.{AllocError}
 use Rattle.lw_base.specs.Outside.{Rose, HasTaken}
 use Rattle.lw_model.specs.declared.record.Record.{Record}
@@ -15,6 +15,7 @@ use Rattle.lw_target.specs.declared.options.Options.{Options}
 use Rattle.lw_walk.specs.Walk.{walk_bad_line, walk_answer}
 use Rattle.lw_program.specs.declared.fault.Fault.{Fault}
 use Rattle.lw_program.specs.declared.fault.Fault.TheVariants.{Usage, Script, Walk, Unlawful, ReadFault, WriteFault, NoMemory}
+use Rattle.lw_program.specs.declared.finish.Finish.{Finish}
 use Rattle.lw_program.specs.declared.words.CommandLine.{CommandLine}
 use Rattle.lw_program.specs.declared.words.CommandLine.TheVariants as command
 use Rattle.lw_program.specs.Limits.{script_limit, walk_limit}
@@ -151,6 +152,10 @@ limit_of (command.Run options) = script_limit
 limit_of command.Walk = walk_limit
 limit_of command.Check = report_limit
 
+-- the limit of what the words ask for; where they are no command nothing is read
+abbrev pub limit_asked : Option CommandLine → Option ℕ
+limit_asked = option_map limit_of
+
 -- the bytes have no refusal of the command
 abbrev pub Accepts : CommandLine → List ℕ → Type 0
 Accepts (command.Run options) bytes = run_refusal bytes ≡ None
@@ -205,3 +210,11 @@ Ends asked o (Some (Unlawful clause line)) told = IsSilent o told × IsRefused a
 abbrev pub EndsAsked : Result (Option CommandLine) AllocError → Outside → Option Fault → Option Record → Type 0
 EndsAsked (Err lack) o fault told = (fault ≡ Some NoMemory) × IsSilent o told × o.unread
 EndsAsked (Ok asked) o fault told = Ends asked o fault told
+
+-- what the status of an end says of the bytes read and of those written
+pub record IsEnd (asked : Option CommandLine) (o : Outside) (end : Finish) : Type 0 where
+  pub done : end.status ≡ 0 → IsDone asked o end.told
+  pub refused : (end.status ≡ 2) ⊎ (end.status ≡ 6) → IsRefused asked o end.fault
+  pub cut_short : end.status ≡ 4 → IsCutShort asked o end.told
+  pub complete : OfBytes asked o.left (IsComplete o end.status)
+  pub refusing : OfBytes asked o.left (IsRefusing o end.status)

@@ -1,7 +1,8 @@
 //! What a command does: the bytes that it takes are read whole, it answers them, and the text of its answer is written.
 ghost use Rattle.std.specs.Prelude.{◌≡◌, ◌<◌, ◌^◌, false, None, Some, vec_len, IfOk, IfSome, OnOk};
 ghost use Rattle.lw_program.specs.Outside.{seen};
-ghost use Rattle.lw_program.specs.Commands.{EndsCommand, EndsText, Gets};
+ghost use Rattle.lw_program.specs.Bytes.{IsReadWithin};
+ghost use Rattle.lw_program.specs.Commands.{EndsCommand, EndsText, Gets, HasLimit};
 ghost use Rattle.lw_program.specs.declared.reading.ReadStop.TheVariants as stop;
 ghost use Rattle.lw_base.specs.Outside.{Rose};
 
@@ -84,7 +85,8 @@ where
     M::Value: Drop,
     requires clocks { vec_len clocks ≡ 16 }
     requires goes_on { I.ended input.old ≡ false }
-    ensures { EndsCommand (M.is command) (seen I.left I.faults O.holds O.faults input.old input.new out.old out.new) result.fault result.told }
+    ensures ends { EndsCommand (M.is command) (seen I.left I.faults O.holds O.faults input.old input.new out.old out.new) result.fault result.told }
+    ensures bounded { IsReadWithin (M.is command).limit (I.left input.old) (I.left input.new) (input.new ≡ input.old) }
 {
     match bytes_for(alloc, input, command.limit()) {
         Ok(bytes) => match command.answer(rt, alloc, bytes.as_slice(), clocks, gate) {
@@ -105,7 +107,8 @@ fn bytes_for<I: Source>(
     requires limit { IfSome limit (λ n. n < 2 ^ 40) }
     requires goes_on { I.ended input.old ≡ false }
     ensures bytes { IfOk result (λ v. Gets limit (I.left input.old) v.items (I.left input.new) (input.new ≡ input.old)) }
-    ensures fault { result ≡ Err stop.Fault → Rose (I.faults input.old) (I.faults input.new) }
+    ensures bounded { IsReadWithin limit (I.left input.old) (I.left input.new) (input.new ≡ input.old) }
+    ensures fault { result ≡ Err stop.Fault → HasLimit limit × Rose (I.faults input.old) (I.faults input.new) }
     ensures sound { OnOk result (I.faults input.new ≡ I.faults input.old) }
     ensures lack { result ≡ Err stop.NoMemory → I.faults input.new ≡ I.faults input.old }
 {

@@ -1,11 +1,12 @@
 //! The top call: what the words ask for, over a source, a sink, clocks and a gate.
-ghost use Rattle.std.specs.Prelude.{◌≡◌, ◌≢◌, ◌≤◌, ◌↔◌, ◌⊎◌, false, Some, None, vec_len, IfOk, IfSome};
+ghost use Rattle.std.specs.Prelude.{◌≡◌, ◌≢◌, ◌+◌, ◌≤◌, ◌↔◌, false, Some, None, vec_len, IfOk, IfSome};
 ghost use Rattle.lw_base.specs.Outside.{Rose};
 ghost use Rattle.lw_program.specs.Words.{asked};
 ghost use Rattle.lw_program.specs.Served.{Serves};
 ghost use Rattle.lw_program.specs.Outside.{seen};
 ghost use Rattle.lw_program.specs.Statuses.{end_status};
-ghost use Rattle.lw_program.specs.Ends.{Ends, EndsAsked, IsDone, IsCutShort, IsRefused, IsComplete, IsRefusing, OfBytes};
+ghost use Rattle.lw_program.specs.Bytes.{GivesAtMost, IsReadWithin};
+ghost use Rattle.lw_program.specs.Ends.{Ends, EndsAsked, IsEnd, limit_asked, limit_of};
 
 use crate::check::CheckCommand;
 use crate::command::carry_out;
@@ -36,21 +37,16 @@ pub fn lightrun<R, I: Source, O: Sink, C: Clock + Drop, G: Gate>(
     ensures status { (result.status ≡ end_status result.fault) × (result.status ≤ 6) }
     ensures usage { result.status ≢ 5 → (result.status ≡ 1) ↔ (asked words.now ≡ None) }
     ensures unread { result.status ≡ 1 → input.new ≡ input.old }
-    ensures done { result.status ≡ 0 → IsDone (asked words.now)
-        (seen I.left I.faults O.holds O.faults input.old input.new out.old out.new) result.told }
-    ensures refused { (result.status ≡ 2) ⊎ (result.status ≡ 6) → IsRefused (asked words.now)
-        (seen I.left I.faults O.holds O.faults input.old input.new out.old out.new) result.fault }
+    // however it ends
+    ensures bounded { IsReadWithin (limit_asked (asked words.now))
+        (I.left input.old) (I.left input.new) (input.new ≡ input.old) }
+    ensures end { IsEnd (asked words.now)
+        (seen I.left I.faults O.holds O.faults input.old input.new out.old out.new) result }
     ensures read_fault { result.status ≡ 3 → Rose (I.faults input.old) (I.faults input.new) }
-    ensures write_fault { result.status ≡ 4 → IsCutShort (asked words.now)
-        (seen I.left I.faults O.holds O.faults input.old input.new out.old out.new) result.told }
     ensures unwritten { result.status ≢ 0 → result.status ≢ 4 → (result.told ≡ None) × (out.new ≡ out.old) }
     // a count of faults that rose is told
     ensures sound_read { result.status ≢ 3 → I.faults input.new ≡ I.faults input.old }
     ensures sound_write { result.status ≢ 4 → O.faults out.new ≡ O.faults out.old }
-    ensures complete { OfBytes (asked words.now) (I.left input.old) (IsComplete
-        (seen I.left I.faults O.holds O.faults input.old input.new out.old out.new) result.status) }
-    ensures refusing { OfBytes (asked words.now) (I.left input.old) (IsRefusing
-        (seen I.left I.faults O.holds O.faults input.old input.new out.old out.new) result.status) }
 {
     obey(
         rt,
@@ -76,8 +72,10 @@ fn obey<R, I: Source, O: Sink, C: Clock + Drop, G: Gate>(
     requires clocks { vec_len clocks ≡ 16 }
     requires goes_on { I.ended input.old ≡ false }
     requires served { IfOk asked (λ c. IfSome c Serves) }
-    ensures { EndsAsked asked (seen I.left I.faults O.holds O.faults input.old input.new out.old out.new)
+    ensures ends { EndsAsked asked (seen I.left I.faults O.holds O.faults input.old input.new out.old out.new)
         result.fault result.told }
+    ensures bounded { IfOk asked (λ c. IsReadWithin (limit_asked c)
+        (I.left input.old) (I.left input.new) (input.new ≡ input.old)) }
 {
     match asked {
         Ok(line) => obey_line(rt, alloc, line, input, out, clocks, gate),
@@ -98,8 +96,10 @@ fn obey_line<R, I: Source, O: Sink, C: Clock + Drop, G: Gate>(
     requires clocks { vec_len clocks ≡ 16 }
     requires goes_on { I.ended input.old ≡ false }
     requires served { IfSome asked Serves }
-    ensures { Ends asked (seen I.left I.faults O.holds O.faults input.old input.new out.old out.new)
+    ensures ends { Ends asked (seen I.left I.faults O.holds O.faults input.old input.new out.old out.new)
         result.fault result.told }
+    ensures bounded { IsReadWithin (limit_asked asked)
+        (I.left input.old) (I.left input.new) (input.new ≡ input.old) }
 {
     match asked {
         Some(line) => finish_of(rt, alloc, line, input, out, clocks, gate),
@@ -120,8 +120,9 @@ fn finish_of<R, I: Source, O: Sink, C: Clock + Drop, G: Gate>(
     requires clocks { vec_len clocks ≡ 16 }
     requires goes_on { I.ended input.old ≡ false }
     requires served { Serves line }
-    ensures { Ends (Some line) (seen I.left I.faults O.holds O.faults input.old input.new out.old out.new)
+    ensures ends { Ends (Some line) (seen I.left I.faults O.holds O.faults input.old input.new out.old out.new)
         result.fault result.told }
+    ensures bounded { GivesAtMost (limit_of line + 1) (I.left input.old) (I.left input.new) }
 {
     match line {
         CommandLine::Run(options) => {

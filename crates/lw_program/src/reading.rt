@@ -1,7 +1,7 @@
 //! All of a source, up to a limit.
 ghost use Rattle.std.specs.Prelude.{◌≡◌, ◌+◌, ◌^◌, ◌<◌, ◌≤◌, ◌==◌, false, [], ◌++◌, length, vec_len, take, IfOk, IfSome, OnOk};
 ghost use Rattle.lw_base.specs.Outside.{Rose, HasGiven};
-ghost use Rattle.lw_program.specs.Bytes.{IsReadUpTo, GivesMore};
+ghost use Rattle.lw_program.specs.Bytes.{GivesAtMost, GivesMore, IsReadUpTo};
 ghost use Rattle.lw_program.specs.declared.reading.ReadStop.TheVariants.{Fault, NoMemory};
 
 use lw_base::{NoMemory, Source};
@@ -32,7 +32,7 @@ impl From<NoMemory> for ReadStop {
 
 /// The bytes of a source, read to its end, or its first bytes up to one past `limit`.
 ///
-/// Each read that isn't the end takes at least one byte, so reading ends.
+/// However it ends, no more than that is read. Each read that isn't the end takes at least one byte, so reading ends.
 pub fn read_up_to<I: Source>(
     alloc: Global,
     input: &mut I,
@@ -41,6 +41,7 @@ pub fn read_up_to<I: Source>(
     requires limit { limit < 2 ^ 40 }
     requires goes_on { I.ended input.old ≡ false }
     ensures bytes { IfOk result (λ v. IsReadUpTo limit (I.left input.old) v.items (I.left input.new)) }
+    ensures bounded { GivesAtMost (limit + 1) (I.left input.old) (I.left input.new) }
     ensures fault { result ≡ Err Fault → Rose (I.faults input.old) (I.faults input.new) }
     ensures sound { OnOk result (I.faults input.new ≡ I.faults input.old) }
     ensures lack { result ≡ Err NoMemory → I.faults input.new ≡ I.faults input.old }
@@ -75,6 +76,7 @@ fn read_next<I: Source>(
     ensures piece { vec_len piece.new ≡ vec_len piece.old }
     ensures ended { IfOk result (λ n. I.ended input.new ≡ (n == 0)) }
     ensures more { OnOk result (GivesMore (I.left input.old) bytes.old.items bytes.new.items (I.left input.new)) }
+    ensures bounded { GivesAtMost room (I.left input.old) (I.left input.new) }
     ensures end { IfOk result (λ n. n ≡ 0 → IfSome (I.left input.old) (λ rest. rest ≡ [])) }
     ensures fault { result ≡ Err Fault → Rose (I.faults input.old) (I.faults input.new) }
     ensures sound { OnOk result (I.faults input.new ≡ I.faults input.old) }
@@ -96,6 +98,7 @@ fn read_piece<I: Source>(
     ensures ended { IfOk result (λ n. I.ended input.new ≡ (n == 0)) }
     ensures more { IfOk result (λ n. bytes.new.items ≡ bytes.old.items ++ take n piece.new) }
     ensures given { IfOk result (λ n. HasGiven (I.left input.old) (take n piece.new) (I.left input.new)) }
+    ensures bounded { GivesAtMost (length piece.old) (I.left input.old) (I.left input.new) }
     ensures end { IfOk result (λ n. n ≡ 0 → IfSome (I.left input.old) (λ rest. rest ≡ [])) }
     ensures fault { result ≡ Err Fault → Rose (I.faults input.old) (I.faults input.new) }
     ensures sound { OnOk result (I.faults input.new ≡ I.faults input.old) }
