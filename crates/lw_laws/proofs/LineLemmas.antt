@@ -1,8 +1,7 @@
 -- Where each line of a record's text stands.
-use Rattle.std.proofs.Common.{◌≡◌, ℕ, zero, suc, ◌+◌, Bool, true, false, List, [], ◌∷◌, ◌++◌, codes, decimal, map, flat_map, length, take, take_all, slice_get, is_none, unwrap_or, option_map, Option, Some, None, refl, sym, ap, ap₂, ◌∙◌, arith, ◌&&◌}
+use Rattle.std.proofs.Common.{◌≡◌, ℕ, zero, suc, ◌+◌, true, false, List, [], ◌∷◌, ◌++◌, codes, decimal, map, flat_map, length, take, take_all, slice_get, unwrap_or, option_map, Option, Some, None, refl, sym, ap, ap₂, ◌∙◌, arith}
 use Rattle.std.specs.Prelude.{sum_by}
 use Rattle.std.specs.List.{enumerate_from}
-use Rattle.std.proofs.lemmas.Bool.{and_parts}
 use Rattle.std.proofs.lemmas.List.{length-append, length-map, append_assoc}
 use Rattle.std.proofs.lemmas.List.Sums.{sum_by-cons}
 use Rattle.lw_model.specs.declared.script.ClientOf.{ClientOf}
@@ -13,14 +12,12 @@ use Rattle.lw_model.specs.declared.record.ThreadRecord.{ThreadRecord}
 use Rattle.lw_base.specs.declared.ends.DeviceEnd.{DeviceEnd}
 use Rattle.lw_model.specs.declared.record.Span.{Span}
 use Rattle.lw_base.specs.declared.moves.Round.{Round}
-use Rattle.lw_base.specs.declared.moves.Row.{Row}
-use Rattle.lw_base.specs.declared.moves.Order.{Order}
 use Rattle.lw_model.specs.Threads.{of_thread}
-use Rattle.lw_model.specs.Printable.{has_rounds, is_empty}
+use Rattle.lw_model.specs.Printable.{has_rounds}
 use Rattle.lw_model.specs.Lines as number
 use Rattle.lw_model.specs.ReportText as text
 use Rattle.lw_model.proofs.Printed.{parts}
-use Rattle.lw_laws.specs.LinePlaces.{numbered_line, line_at, EachStands, RoundStands, IsNextBehind, LinesStand}
+use Rattle.lw_laws.specs.LinePlaces.{line_at, EachStands, RoundStands, IsNextBehind, LinesStand}
 use Rattle.lw_laws.proofs.Joined.{behind, within, mapped, behind_mapped, length-mapped, joined, length-joined, in_joined, unnumbered, sum_more}
 
 -- ---- the lines of a thread, from those of one kind on

@@ -1,6 +1,6 @@
 -- A reader of lines is local: what it says up to a line depends on no line behind it.
-use Rattle.std.proofs.Common.{◌≡◌, ◌≤◌, ◌<◌, ℕ, zero, suc, ◌+◌, ◌-◌, Bool, true, false, cond, if◌then◌else◌, List, [], ◌∷◌, take, Option, Some, None, Result, Ok, Err, refl, sym, ap, ap₂, ◌∙◌, subst, arith}
-use Rattle.lw_report.specs.Machine.{State, ◌>>=◌, taken, one, many_from, many, numbered}
+use Rattle.std.proofs.Common.{◌≡◌, ◌≤◌, ◌<◌, ℕ, zero, suc, ◌+◌, ◌-◌, if◌then◌else◌, List, [], ◌∷◌, take, Option, Some, None, Result, Ok, Err, refl, sym, ap, ◌∙◌, subst, arith}
+use Rattle.lw_report.specs.Machine.{State, ◌>>=◌, one, many_from, many, numbered}
 use Rattle.lw_base.specs.TextLines.{is_nil}
 
 abbrev pub state : ℕ → List (List ℕ) → State

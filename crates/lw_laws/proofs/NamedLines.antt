@@ -21,7 +21,7 @@ use Rattle.lw_model.specs.Plan.{plan}
 use Rattle.lw_model.specs.ReportText as text
 use Rattle.lw_model.specs.Rounds.{row_fits}
 use Rattle.lw_model.specs.Same.{is_same_reply, is_same_seen, is_same_order}
-use Rattle.lw_model.specs.Threads.{thread_count, threads, clients, images, ran_of, did_of}
+use Rattle.lw_model.specs.Threads.{thread_count, threads, clients, ran_of, did_of}
 use Rattle.lw_model.specs.Verdict.{Test, each_line, against, step_test, is_sent_to, lacks_none, app_refuses_none, device_tests, round_tests, clock_tests, homes_and_hops, numbers, answers, ran_is_sent, replies, devices, visits_seen, rounds_and_orders, buffers_home, rules, failing, FailsFirst, verdict}
 use Rattle.lw_model.proofs.Growth.{all-append}
 use Rattle.lw_model.proofs.Printed.{parts}

@@ -1,13 +1,7 @@
 -- The numbers that lines are given, and the lines that stand there in the text of a record.
 use Rattle.std.specs.Prelude.{◌≡◌, ℕ, zero, suc, ◌+◌, List, [], ◌∷◌, codes, decimal, length, slice_get, Option, Some, None}
-use Rattle.lw_base.specs.declared.message.Tag.{Tag}
 use Rattle.lw_model.specs.declared.record.Record.{Record}
 use Rattle.lw_model.specs.declared.record.ThreadRecord.{ThreadRecord}
-use Rattle.lw_base.specs.declared.moves.Hop.{Hop}
-use Rattle.lw_model.specs.declared.record.Did.{Did}
-use Rattle.lw_model.specs.declared.record.Called.{Called}
-use Rattle.lw_model.specs.declared.record.Reply.{Reply}
-use Rattle.lw_model.specs.declared.record.Seen.{Seen}
 use Rattle.lw_base.specs.declared.ends.DeviceEnd.{DeviceEnd}
 use Rattle.lw_model.specs.declared.record.Span.{Span}
 use Rattle.lw_base.specs.declared.moves.Round.{Round}

@@ -1,5 +1,5 @@
 -- The lines that a verdict names, by their first words.
-use Rattle.std.specs.Prelude.{◌≡◌, ℕ, zero, suc, Bool, true, List, [], ◌∷◌, codes, slice_get, unwrap_or, Some, bytes_eq}
+use Rattle.std.specs.Prelude.{◌≡◌, ℕ, zero, suc, true, List, [], ◌∷◌, codes, slice_get, unwrap_or, Some, bytes_eq}
 use Rattle.std.specs.List.{list_any}
 use Rattle.lw_model.specs.declared.record.Record.{Record}
 use Rattle.lw_model.specs.ReportText.{line}

@@ -1,5 +1,5 @@
 -- No line of a record has a line feed within it, so the text falls into just its lines.
-use Rattle.std.proofs.Common.{◌≡◌, ℕ, ◌+◌, ◌^◌, ◌<◌, ◌≤◌, ◌==◌, nat_lt, nat_le, Bool, true, false, ◌&&◌, ◌||◌, not, if◌then◌else◌, List, [], ◌∷◌, ◌++◌, map, length, flat_map, codes, decimal, append_assoc, Option, Some, None, refl, sym, ap, ap₂, subst, ◌∙◌, arith}
+use Rattle.std.proofs.Common.{◌≡◌, ℕ, ◌+◌, ◌==◌, nat_le, Bool, true, false, ◌||◌, not, if◌then◌else◌, List, [], ◌∷◌, ◌++◌, map, length, flat_map, codes, decimal, append_assoc, None, refl, sym, ap, subst, ◌∙◌, arith}
 use Rattle.std.specs.List.{list_all, enumerate_from, AllByRecursion}
 use Rattle.std.proofs.lemmas.Bool.{and_parts, and_from, leb-true, ne_eqb, false≢true}
 use Rattle.std.proofs.lemmas.Fmt.{digits_decimal}
@@ -8,7 +8,6 @@ use Rattle.lw_base.specs.declared.message.Tag.{Tag}
 use Rattle.lw_base.specs.declared.message.Mark.{Mark}
 use Rattle.lw_base.specs.declared.message.What.{What}
 use Rattle.lw_base.specs.declared.message.What.TheVariants as what
-use Rattle.lw_model.specs.declared.script.Script.{Script}
 use Rattle.lw_model.specs.declared.script.ImageOf.{ImageOf}
 use Rattle.lw_model.specs.declared.script.ClientOf.{ClientOf}
 use Rattle.lw_model.specs.declared.script.Op.{Op}
@@ -30,8 +29,8 @@ use Rattle.lw_model.specs.declared.record.SeenBy.{SeenBy}
 use Rattle.lw_model.specs.declared.record.SeenBy.TheVariants as by
 use Rattle.lw_base.specs.declared.ends.DeviceEnd.{DeviceEnd}
 use Rattle.lw_model.specs.ScriptRules.{is_within, is_name, is_name_byte}
-use Rattle.lw_model.specs.ReportText.{line, count_of, scheduler_word, image_line, op_words, op_line, client_line, client_lines, hop_line, what_words, ran_line, answer_words, did_line, called_line, replied_words, reply_line, mark_word, result_words, seen_line, role_word, thread_line, thread_lines, device_line, text_of_lines}
-use Rattle.lw_model.specs.Ranges.{u64_max, Fits32, Fits64, WhatFits, TagFits, HopFits, AnswerFits, DidFits, CalledFits, RepliedFits, ReplyFits, MarkFits, SeenByFits, SeenFits, DeviceFits, OpFits, ImageFits, ThreadFits, ClientFits, ScriptFits}
+use Rattle.lw_model.specs.ReportText.{line, count_of, image_line, op_words, op_line, client_lines, hop_line, what_words, ran_line, answer_words, did_line, called_line, replied_words, reply_line, mark_word, result_words, seen_line, role_word, thread_line, thread_lines, device_line, text_of_lines}
+use Rattle.lw_model.specs.Ranges.{Fits32, Fits64, WhatFits, TagFits, HopFits, AnswerFits, DidFits, CalledFits, RepliedFits, ReplyFits, MarkFits, SeenByFits, SeenFits, DeviceFits, OpFits, ImageFits, ThreadFits, ClientFits}
 use Rattle.lw_report.specs.declared.contents.Contents.{Contents}
 use Rattle.lw_report_lines.specs.LineParts.{is_digit, ends_word}
 use Rattle.lw_base.specs.TextLines.{is_feed, put_on, pieces}
@@ -42,7 +41,7 @@ use Rattle.lw_report_lines.proofs.PartTexts.{numerals}
 use Rattle.lw_report_lines.proofs.PartsBack.{are_all}
 use Rattle.lw_report_lines.proofs.ScriptBack.{hex_words, name_words}
 use Rattle.lw_report.proofs.ReportTexts.{fed}
-use Rattle.lw_report.proofs.WholeTexts.{images_lines, clients_lines, pool_line, threads_lines, devices_lines, last_lines, first_lines, lines_from}
+use Rattle.lw_report.proofs.WholeTexts.{images_lines, clients_lines, threads_lines, devices_lines, last_lines, first_lines, lines_from}
 
 no_feed : ℕ → Bool
 no_feed b = not (is_feed b)

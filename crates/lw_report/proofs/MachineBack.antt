@@ -1,30 +1,26 @@
 -- Lines that are written are read back one after the other.
-use Rattle.std.proofs.Common.{◌≡◌, ℕ, zero, suc, ◌+◌, ◌<◌, ◌≤◌, ◌==◌, nat_lt, nat_le, Bool, true, false, cond, ◌&&◌, if◌then◌else◌, List, [], ◌∷◌, ◌++◌, map, length, flat_map, codes, decimal, append_assoc, append-nil, Option, Some, None, Result, Ok, Err, refl, sym, ap, ap₂, subst, ◌∙◌, arith}
+use Rattle.std.proofs.Common.{◌≡◌, ℕ, ◌+◌, nat_le, Bool, true, false, if◌then◌else◌, List, [], ◌∷◌, ◌++◌, map, length, flat_map, codes, decimal, append_assoc, Option, Some, None, Result, Ok, Err, refl, sym, ap, ap₂, subst, ◌∙◌, arith}
 use Rattle.std.specs.List.{list_all, enumerate_from, AllByRecursion}
-use Rattle.std.proofs.lemmas.Bool.{and_parts, eqb-true, ltb-true, leb-true, lt-leb, ne_eqb, le-leb, false≢true}
+use Rattle.std.proofs.lemmas.Bool.{and_parts, ltb-true, leb-true, lt-leb, ne_eqb}
 use Rattle.std.proofs.lemmas.List.{map-append}
-use Rattle.lw_base.specs.declared.message.Tag.{Tag}
-use Rattle.lw_model.specs.declared.script.Script.{Script}
 use Rattle.lw_model.specs.declared.script.ClientOf.{ClientOf}
 use Rattle.lw_model.specs.declared.script.Op.{Op}
 use Rattle.lw_model.specs.declared.record.ThreadRecord.{ThreadRecord}
 use Rattle.lw_model.specs.declared.record.RoleKind.{RoleKind}
 use Rattle.lw_model.specs.declared.record.RoleKind.TheVariants.{App, Client, Owner}
-use Rattle.lw_model.specs.declared.record.Called.{Called}
 use Rattle.lw_model.specs.declared.record.Reply.{Reply}
 use Rattle.lw_model.specs.declared.record.Seen.{Seen}
-use Rattle.lw_model.specs.ScriptRules.{is_name, is_pattern, is_within}
-use Rattle.lw_model.specs.Printable.{has_a_line, has_bytes, has_results, has_role, is_empty, is_clients_alone, may_reply, is_printable_thread}
-use Rattle.lw_model.specs.ReportText.{line, count_of, image_line, op_line, client_lines as lines_of_client, hop_line, ran_line, did_line, called_line, reply_line, seen_line, role_word, thread_line, thread_lines as lines_of_thread, device_line}
-use Rattle.lw_model.specs.Ranges.{Fits32, Fits64, HopFits, TagFits, DidFits, CalledFits, ReplyFits, SeenFits, OpFits, ThreadFits, ClientFits}
-use Rattle.lw_report_lines.specs.LineKinds.{hop_in, ran_in, did_in, called_in, reply_in, seen_in, thread_in, client_in, op_in}
-use Rattle.lw_report.specs.Machine.{State, ◌>>=◌, taken, one, many, many_from, numbered}
-use Rattle.lw_report.specs.Report.{client_at, client_lines, role_at, thread_lines, thread_at}
+use Rattle.lw_model.specs.ScriptRules.{is_name, is_pattern}
+use Rattle.lw_model.specs.Printable.{has_bytes, has_results, has_role, is_empty, may_reply}
+use Rattle.lw_model.specs.ReportText.{line, count_of, op_line, client_lines as lines_of_client, reply_line, seen_line}
+use Rattle.lw_model.specs.Ranges.{ReplyFits, SeenFits, OpFits, ClientFits}
+use Rattle.lw_report_lines.specs.LineKinds.{hop_in, ran_in, did_in, called_in, reply_in, seen_in, client_in, op_in}
+use Rattle.lw_report.specs.Machine.{State, ◌>>=◌, one, many, many_from, numbered}
+use Rattle.lw_report.specs.Report.{client_at, client_lines, role_at}
 use Rattle.lw_report_lines.proofs.Said.{some_is}
 use Rattle.lw_report.proofs.Reading.{state}
 use Rattle.lw_report.proofs.ReportTexts.{fed, one_by_one}
-use Rattle.lw_report.proofs.Chains.{own_lines, thread_of_lines}
-use Rattle.lw_report_lines.proofs.LinesBack.{hop_back, ran_back, did_back, called_back, thread_back}
+use Rattle.lw_report.proofs.Chains.{own_lines}
 use Rattle.lw_report_lines.proofs.ScriptBack.{reply_back, seen_back, client_back, op_back}
 
 pub fed_both : (xs ys R : List (List ℕ)) → fed (xs ++ ys) ++ R ≡ fed xs ++ (fed ys ++ R)

@@ -1,5 +1,5 @@
 -- Loops of the machine, one turn at a time.
-use Rattle.std.proofs.Common.{◌≡◌, ℕ, suc, ◌+◌, ◌-◌, ◌<◌, List, [], ◌∷◌, ◌++◌, Option, Some, None, Result, Ok, Err, append_assoc, append-nil, refl, sym, ap, ◌∙◌, arith}
+use Rattle.std.proofs.Common.{◌≡◌, ℕ, ◌+◌, ◌-◌, ◌<◌, List, [], ◌∷◌, ◌++◌, Option, Some, None, Result, Ok, Err, append_assoc, append-nil, refl, sym, ap, ◌∙◌}
 use Rattle.lw_report.specs.declared.lines.Stop.{Stop}
 use Rattle.lw_report.specs.declared.lines.Stop.TheVariants.{BadLine, NoMemory}
 use Rattle.lw_report.specs.Machine.{State, Says, SaysList, taken, many, many_from, numbered, ◌>>=◌}

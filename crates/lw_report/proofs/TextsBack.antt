@@ -1,15 +1,9 @@
 -- The text of a record is read as that record, so no text is that of two.
-use Rattle.std.proofs.Common.{◌≡◌, ℕ, ◌+◌, ◌≤◌, ◌&&◌, nat_le, true, List, [], None, Result, Ok, Err, refl, sym, ap, subst, ◌∙◌, arith}
-use Rattle.std.proofs.lemmas.Bool.{and_parts, leb-true}
+use Rattle.std.proofs.Common.{◌≡◌, ℕ, true, List, [], None, Result, Ok, Err, sym, ap, ◌∙◌, arith}
 use Rattle.lw_model.specs.declared.record.Record.{Record}
-use Rattle.lw_base.specs.declared.moves.Scheduler.{Scheduler}
 use Rattle.lw_base.specs.declared.moves.Scheduler.TheVariants.{Static}
-use Rattle.lw_model.specs.declared.record.Span.{Span}
-use Rattle.lw_base.specs.declared.moves.Round.{Round}
 use Rattle.lw_model.specs.Printable.{is_printable}
-use Rattle.lw_model.specs.ScriptRules.{is_within}
 use Rattle.lw_model.specs.ReportText.{text_of_lines, text_of}
-use Rattle.lw_model.specs.Ranges.{Fits64}
 use Rattle.lw_report.specs.declared.contents.Contents.{Contents}
 use Rattle.lw_base.specs.TextLines.{pieces}
 use Rattle.lw_report.specs.Machine.{State, ◌>>=◌}
@@ -18,7 +12,6 @@ use Rattle.lw_report.specs.Parsed.{contents_of, IsStatic}
 use Rattle.lw_report.specs.Ranges.{InRange}
 use Rattle.lw_report.proofs.Reading.{state}
 use Rattle.lw_report.proofs.Accepted.{images_named, clients_named}
-use Rattle.lw_report.proofs.ReportTexts.{fed}
 use Rattle.lw_report.proofs.WholeTexts.{lines_are, lines_from}
 use Rattle.lw_report.proofs.WholeBack.{contents_parts, bounded, lines_read}
 use Rattle.lw_report.proofs.FeedFree.{pieces_fed, lines_free}

@@ -1,11 +1,10 @@
 -- A whole report is read back.
-use Rattle.std.proofs.Common.{◌≡◌, ℕ, ◌+◌, ◌<◌, ◌≤◌, ◌==◌, nat_le, Bool, true, false, ◌&&◌, if◌then◌else◌, List, [], ◌∷◌, ◌++◌, map, length, flat_map, codes, decimal, append_assoc, append-nil, Option, Some, None, Result, Ok, Err, is_none, refl, sym, ap, ap₂, subst, ◌∙◌, arith}
+use Rattle.std.proofs.Common.{◌≡◌, ℕ, ◌+◌, ◌≤◌, ◌==◌, nat_le, true, ◌&&◌, if◌then◌else◌, List, [], ◌∷◌, ◌++◌, map, length, flat_map, codes, decimal, append-nil, None, Result, Ok, Err, is_none, refl, sym, ap, subst, ◌∙◌, arith}
 use Rattle.std.specs.List.{list_all, enumerate_from, AllByRecursion}
 use Rattle.std.proofs.lemmas.Bool.{and_parts, and_from, leb-true, le-leb, eqb-true}
 use Rattle.lw_model.specs.declared.script.Script.{Script}
 use Rattle.lw_model.specs.declared.script.ImageOf.{ImageOf}
 use Rattle.lw_model.specs.declared.script.ClientOf.{ClientOf}
-use Rattle.lw_model.specs.declared.record.Record.{Record}
 use Rattle.lw_base.specs.declared.moves.Scheduler.TheVariants.{Static}
 use Rattle.lw_model.specs.declared.record.ThreadRecord.{ThreadRecord}
 use Rattle.lw_base.specs.declared.ends.DeviceEnd.{DeviceEnd}
@@ -13,7 +12,7 @@ use Rattle.lw_base.specs.declared.ends.Home.{Home}
 use Rattle.lw_model.specs.ScriptRules.{is_name, is_pattern, is_within, rule_broken}
 use Rattle.lw_model.specs.Printable.{is_printable_thread, is_printable}
 use Rattle.lw_model.specs.ReportText.{line, count_of, image_line, client_lines, thread_lines, device_line}
-use Rattle.lw_model.specs.Ranges.{u64_max, Fits32, Fits64, ImageFits, DeviceFits, ClientFits, ScriptFits, ThreadFits}
+use Rattle.lw_model.specs.Ranges.{u64_max, Fits64, ImageFits, DeviceFits, ClientFits, ScriptFits, ThreadFits}
 use Rattle.lw_model.proofs.Rules.{none_is}
 use Rattle.lw_report.specs.declared.contents.Contents.{Contents}
 use Rattle.lw_report_lines.specs.declared.single.FixedLine.{FixedLine}
@@ -22,8 +21,7 @@ use Rattle.lw_report_lines.specs.declared.single.NumberLine.{NumberLine}
 use Rattle.lw_report_lines.specs.declared.single.NumberLine.TheVariants.{Period, Images, Clients}
 use Rattle.lw_report_lines.specs.declared.single.PairLine.TheVariants.{Pool, Left}
 use Rattle.lw_report_lines.specs.LineKinds.{image_in, device_in}
-use Rattle.lw_report_lines.specs.Once.{fixed_text, fixed_in, number_word, number_least, number_most, number_of_in, pair_of_in, reactors_in}
-use Rattle.lw_base.specs.TextLines.{is_nil}
+use Rattle.lw_report_lines.specs.Once.{fixed_in, number_word, number_least, number_most, number_of_in, pair_of_in, reactors_in}
 use Rattle.lw_report.specs.Machine.{State, ◌>>=◌, one, numbered}
 use Rattle.lw_report.specs.Report.{list_at, client_at, accepted, script_at, thread_at, threads_at, devices_at, finished, rest_at, report_at}
 use Rattle.lw_report.specs.Ranges.{InRange}

@@ -1,5 +1,5 @@
 -- Reading lines one after the other. A failure is the number of the bad line.
-use Rattle.std.specs.Prelude.{ℕ, zero, suc, ◌+◌, ◌≡◌, List, [], ◌∷◌, Option, Some, None, Result, Ok, Err, Vec, Bool, true, false}
+use Rattle.std.specs.Prelude.{ℕ, zero, suc, ◌+◌, ◌≡◌, List, [], ◌∷◌, Option, Some, None, Result, Ok, Err, Vec}
 use Rattle.std.specs.declared.alloc.Global.{Global}
 use Rattle.lw_report.specs.declared.lines.Stop.{Stop}
 use Rattle.lw_report.specs.declared.lines.Stop.TheVariants.{BadLine, NoMemory}
