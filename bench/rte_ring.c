@@ -1,5 +1,6 @@
 /* Messages per second over DPDK's rte_ring, multi-producer enqueue and single-consumer dequeue: a yardstick for the ring.
- * Messages are pointers. The ring is made in plain memory, without DPDK's environment layer.
+ * The messages are pointers, and then elements of 40 bytes, as large as those of ring_bench. The ring is made in plain memory,
+ * without DPDK's environment layer.
  *
  *   rte_ring MESSAGES
  *
@@ -12,19 +13,26 @@
 #include <time.h>
 
 #include <rte_ring.h>
+#include <rte_ring_elem.h>
 
-enum { SLOTS = 1024, BURST = 8, RUNS = 5, MOST_SENDERS = 3 };
+enum { SLOTS = 1024, BURST = 8, RUNS = 5, MOST_SENDERS = 3, NOTE = 40 };
 
 struct sender {
     pthread_t thread;
     struct rte_ring *ring;
     uint64_t messages;
     unsigned burst;
+    unsigned size;
 };
 
-static struct rte_ring *new_ring(void) {
-    size_t size = (size_t)rte_ring_get_memsize(SLOTS);
-    struct rte_ring *ring = aligned_alloc(64, (size + 63) / 64 * 64);
+/* A burst of elements of either size. */
+typedef struct {
+    _Alignas(64) unsigned char bytes[BURST * NOTE];
+} burst_of;
+
+static struct rte_ring *new_ring(unsigned size) {
+    size_t bytes = (size_t)rte_ring_get_memsize_elem(size, SLOTS);
+    struct rte_ring *ring = aligned_alloc(64, (bytes + 63) / 64 * 64);
     if (!ring || rte_ring_init(ring, "yardstick", SLOTS, RING_F_SC_DEQ)) {
         fprintf(stderr, "no ring\n");
         exit(1);
@@ -38,18 +46,28 @@ static double seconds(void) {
     return (double)t.tv_sec + (double)t.tv_nsec * 1e-9;
 }
 
-static void send_burst(struct rte_ring *ring, void **burst, unsigned count) {
-    while (rte_ring_mp_enqueue_bulk(ring, burst, count, NULL) == 0) sched_yield();
+/* The size is a constant in each of the two calls, so that the copies are made for it. */
+static inline unsigned put(struct rte_ring *ring, const void *burst, unsigned size, unsigned count) {
+    if (size == NOTE) return rte_ring_mp_enqueue_bulk_elem(ring, burst, NOTE, count, NULL);
+    return rte_ring_mp_enqueue_bulk_elem(ring, burst, sizeof(void *), count, NULL);
 }
 
-static double one_thread(uint64_t messages, unsigned batch, unsigned burst) {
-    struct rte_ring *ring = new_ring();
-    void *sent[BURST], *taken[BURST];
-    for (unsigned i = 0; i < BURST; i++) sent[i] = &sent[i];
+static inline unsigned take(struct rte_ring *ring, void *burst, unsigned size, unsigned count) {
+    if (size == NOTE) return rte_ring_sc_dequeue_burst_elem(ring, burst, NOTE, count, NULL);
+    return rte_ring_sc_dequeue_burst_elem(ring, burst, sizeof(void *), count, NULL);
+}
+
+static void send_burst(struct rte_ring *ring, const void *burst, unsigned size, unsigned count) {
+    while (put(ring, burst, size, count) == 0) sched_yield();
+}
+
+static double one_thread(uint64_t messages, unsigned batch, unsigned burst, unsigned size) {
+    struct rte_ring *ring = new_ring(size);
+    burst_of sent = {{1}}, taken;
     double start = seconds();
     for (uint64_t m = 0; m < messages; m += batch) {
-        for (unsigned i = 0; i < batch; i += burst) send_burst(ring, sent + i, burst);
-        for (unsigned left = batch; left > 0;) left -= rte_ring_sc_dequeue_burst(ring, taken, burst < left ? burst : left, NULL);
+        for (unsigned i = 0; i < batch; i += burst) send_burst(ring, sent.bytes + i * size, size, burst);
+        for (unsigned left = batch; left > 0;) left -= take(ring, taken.bytes, size, burst < left ? burst : left);
     }
     double spent = seconds() - start;
     free(ring);
@@ -58,24 +76,23 @@ static double one_thread(uint64_t messages, unsigned batch, unsigned burst) {
 
 static void *send_all(void *arg) {
     struct sender *sender = arg;
-    void *sent[BURST];
-    for (unsigned i = 0; i < BURST; i++) sent[i] = sender;
-    for (uint64_t m = 0; m < sender->messages; m += sender->burst) send_burst(sender->ring, sent, sender->burst);
+    burst_of sent = {{1}};
+    for (uint64_t m = 0; m < sender->messages; m += sender->burst) send_burst(sender->ring, sent.bytes, sender->size, sender->burst);
     return NULL;
 }
 
-static double many_threads(uint64_t messages, unsigned senders, unsigned burst) {
+static double many_threads(uint64_t messages, unsigned senders, unsigned burst, unsigned size) {
     struct sender sender[MOST_SENDERS];
-    struct rte_ring *ring = new_ring();
-    void *taken[BURST];
+    struct rte_ring *ring = new_ring(size);
+    burst_of taken;
     uint64_t each = messages / senders / burst * burst;
     double start = seconds();
     for (unsigned s = 0; s < senders; s++) {
-        sender[s] = (struct sender){.ring = ring, .messages = each, .burst = burst};
+        sender[s] = (struct sender){.ring = ring, .messages = each, .burst = burst, .size = size};
         if (pthread_create(&sender[s].thread, NULL, send_all, &sender[s])) exit(1);
     }
     for (uint64_t got = 0; got < each * senders;) {
-        unsigned count = rte_ring_sc_dequeue_burst(ring, taken, BURST, NULL);
+        unsigned count = take(ring, taken.bytes, size, BURST);
         if (count == 0) sched_yield();
         got += count;
     }
@@ -85,13 +102,13 @@ static double many_threads(uint64_t messages, unsigned senders, unsigned burst) 
     return (double)(each * senders) / spent;
 }
 
-static double empty(uint64_t takes) {
-    struct rte_ring *ring = new_ring();
-    void *taken[BURST];
+static double empty(uint64_t takes, unsigned size) {
+    struct rte_ring *ring = new_ring(size);
+    burst_of taken;
     uint64_t got = 0;
     double start = seconds();
     for (uint64_t i = 0; i < takes; i++) {
-        got += rte_ring_sc_dequeue_burst(ring, taken, BURST, NULL);
+        got += take(ring, taken.bytes, size, BURST);
         __asm__ volatile("" ::: "memory");
     }
     double spent = seconds() - start;
@@ -106,20 +123,25 @@ static double empty(uint64_t takes) {
             double rate = run; \
             if (rate > best) best = rate; \
         } \
-        printf("%-20s rte_ring %10.0f\n", name, best); \
+        printf("%-20s rte_ring of %2u bytes %10.0f\n", name, size, best); \
     } while (0)
+
+static void measure(uint64_t messages, unsigned size) {
+    BEST("one thread, 1 and 1", one_thread(messages, 1, 1, size));
+    BEST("one thread, 8 and 8", one_thread(messages, 8, 1, size));
+    BEST("8 at a time", one_thread(messages, 8, 8, size));
+    BEST("1 sending thread", many_threads(messages, 1, 1, size));
+    BEST("2 sending threads", many_threads(messages, 2, 1, size));
+    BEST("3 sending threads", many_threads(messages, 3, 1, size));
+    BEST("1, 8 at a time", many_threads(messages, 1, 8, size));
+    BEST("2, 8 at a time", many_threads(messages, 2, 8, size));
+    BEST("3, 8 at a time", many_threads(messages, 3, 8, size));
+    BEST("takes of nothing", empty(messages, size));
+}
 
 int main(int argc, char **argv) {
     uint64_t messages = argc > 1 ? strtoull(argv[1], NULL, 10) : 1000000;
-    BEST("one thread, 1 and 1", one_thread(messages, 1, 1));
-    BEST("one thread, 8 and 8", one_thread(messages, 8, 1));
-    BEST("8 at a time", one_thread(messages, 8, 8));
-    BEST("1 sending thread", many_threads(messages, 1, 1));
-    BEST("2 sending threads", many_threads(messages, 2, 1));
-    BEST("3 sending threads", many_threads(messages, 3, 1));
-    BEST("1, 8 at a time", many_threads(messages, 1, 8));
-    BEST("2, 8 at a time", many_threads(messages, 2, 8));
-    BEST("3, 8 at a time", many_threads(messages, 3, 8));
-    BEST("takes of nothing", empty(messages));
+    measure(messages, sizeof(void *));
+    measure(messages, NOTE);
     return 0;
 }

@@ -1,3 +1,3 @@
 pub mod Reports
 mod RuleAfterRule
-mod WalkSteps
+pub mod WalkSteps

@@ -1,8 +1,9 @@
 -- What callers see of the ends of a ring's latch.
-use Rattle.std.specs.Prelude.{◌≡◌, ◌≤◌}
+use Rattle.std.specs.Prelude.{◌≡◌, ◌≤◌, []}
 use Rattle.atomic_table.specs.Seated.{TableId}
+use Rattle.atomic_table.specs.declared.shared.Seat.{Seat}
 use Rattle.lw_latch.specs.declared.ring_view.RingView.{RingView}
-use Rattle.lw_latch.specs.RingWord.{sender_view}
+use Rattle.lw_latch.specs.RingWord.{table_words, sender_view}
 
 -- an end: of which latch it is, and what its seat knows
 pub record RingEnd : Type 0 where
@@ -21,8 +22,16 @@ pub record IsSender (v : RingView) : Type 0 where
   pub inside_found_not : v.inside ≡ 1 → v.found ≡ 0
 
 -- the view of the receiver's seat, with the senders that it has taken in
-abbrev pub IsReceiver : RingView → Type 0
-IsReceiver v = (v.receives ≡ 1) × (v.inside ≡ 0)
+pub record IsReceiver (v : RingView) : Type 0 where
+  pub receives : v.receives ≡ 1
+  pub outside : v.inside ≡ 0
+
+-- what an end keeps: its seat is at the word of its table, holds no slot, and has the view of such an end
+pub record IsSeatOf (Kind : RingView → Type 0) (table : TableId) (seat : Seat (Unit {0}) RingView) : Type 0 where
+  pub same_table : seat.table_id ≡ table
+  pub words : seat.table_id.words ≡ table_words
+  pub no_slots : seat.me.1 ≡ []
+  pub view : Kind seat.me.0
 
 -- a sender of a new latch
 abbrev pub new_sender : TableId → RingEnd

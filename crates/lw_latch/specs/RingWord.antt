@@ -1,6 +1,6 @@
 -- The word of a ring's latch: bits 0 to 15 count the senders inside, bit 16 is the closed bit, and the bits above count
 -- the finished messages.
-use Rattle.std.specs.Prelude.{◌≡◌, ◌≢◌, ℕ, ◌+◌, ◌-◌, ◌*◌, ◌/◌, ◌%◌, ◌≤◌, List, [], ◌∷◌}
+use Rattle.std.specs.Prelude.{◌≡◌, ◌≢◌, ℕ, ◌+◌, ◌-◌, ◌*◌, ◌/◌, ◌%◌, ◌≤◌, List, [], ◌∷◌, replicate, slice_set}
 use mathlib.Core.Option.{some}
 use lib.ListN.{get_elem?}
 use Rattle.atomic_table.specs.Table.{State, Me, Step}
@@ -11,19 +11,29 @@ use Rattle.lw_base.specs.Totals.{total}
 abbrev pub most_senders : ℕ
 most_senders = 127
 
--- the most messages that one sender finishes, 2^40, and more than all of a ring finish together, 2^47
+-- the most messages that one sender finishes: 2^40
 abbrev pub most_sent : ℕ
 most_sent = 1099511627776
 
+-- above what all senders of a ring finish together: 2^47
 abbrev pub above_all_sent : ℕ
 above_all_sent = 140737488355328
 
--- what the closed bit and one finished message add to the word: 2^16 and 2^17
+-- what the closed bit adds to the word: 2^16
 abbrev pub closed_unit : ℕ
 closed_unit = 65536
 
+-- what one finished message adds to the word: 2^17
 abbrev pub finished_unit : ℕ
 finished_unit = 131072
+
+-- how many words the table has
+abbrev pub table_words : ℕ
+table_words = 16
+
+-- which of them is the latch's
+abbrev pub latch_word : ℕ
+latch_word = 8
 
 abbrev pub parts : RingView → ℕ
 parts v = v.parts
@@ -50,7 +60,7 @@ word_of vs = total inside vs + closed_unit * total closed vs + finished_unit * t
 -- the words of the table: the latch's stands alone, with unused ones before and behind it, so that what others write next
 -- to the table never lies on its cache line
 abbrev pub alone : ℕ → List ℕ
-alone word = 0 ∷ 0 ∷ 0 ∷ 0 ∷ 0 ∷ 0 ∷ 0 ∷ 0 ∷ word ∷ 0 ∷ 0 ∷ 0 ∷ 0 ∷ 0 ∷ 0 ∷ 0 ∷ []
+alone word = slice_set (replicate table_words 0) latch_word word
 
 -- what the rule says of one view of a latch that `shut` seats have closed
 pub record Fits (shut : ℕ) (v : RingView) : Type 0 where
@@ -107,28 +117,41 @@ abbrev pub closed_bit : ℕ → ℕ
 closed_bit word = word / closed_unit % 2
 
 -- a seat: its view, and the slots that it holds, none here
-abbrev Sat : Type 0
+abbrev pub Sat : Type 0
 Sat = Me (Unit {0}) RingView
+
+abbrev pub view_of : Sat → RingView
+view_of seat = seat.0
+
+-- the seat with another view
+abbrev pub with_view : Sat → RingView → Sat
+with_view seat view = (view, seat.1)
 
 -- What each kind of step tells, of the seat before it, the word that it found and the seat after it.
 
-abbrev pub Enters : Step (Unit {0}) → Sat → ℕ → Sat → Type 0
-Enters step old word new =
-    (new ≡ (record old.0 { inside = 1; found = old.0.found + closed_bit word }, old.1)) × (closed_bit word ≡ 0 → old.0.found ≡ 0)
+pub record Enters (step : Step (Unit {0})) (old : Sat) (word : ℕ) (new : Sat) : Type 0 where
+  pub counts : new ≡ with_view old (record (view_of old) { inside = 1; found = (view_of old).found + closed_bit word })
+  -- who finds it not closed has never found it closed
+  pub never_found : closed_bit word ≡ 0 → (view_of old).found ≡ 0
 
 abbrev pub Leaves : Step (Unit {0}) → Sat → ℕ → Sat → Type 0
-Leaves step old word new = new ≡ (record old.0 { inside = 0 }, old.1)
+Leaves step old word new = new ≡ with_view old (record (view_of old) { inside = 0 })
 
 abbrev pub Finishes : Step (Unit {0}) → Sat → ℕ → Sat → Type 0
-Finishes step old word new = new ≡ (record old.0 { inside = 0; finished = old.0.finished + (step.first + 1) / finished_unit }, old.1)
+Finishes step old word new = new ≡ with_view old (record (view_of old) { inside = 0; finished = (view_of old).finished + (step.first + 1) / finished_unit })
 
-abbrev pub TriesToClose : Step (Unit {0}) → Sat → ℕ → Sat → Type 0
-TriesToClose step old word new =
-    (word ≡ step.first → new ≡ (record old.0 { closed = 1; count = step.first / finished_unit }, old.1))
-    × (word ≢ step.first → new ≡ (record old.0 { tries = old.0.tries + 1; seen = word }, old.1))
+-- the word is the one that was asked for, and the latch is closed at its count; or it is another, and that is noted
+pub record TriesToClose (step : Step (Unit {0})) (old : Sat) (word : ℕ) (new : Sat) : Type 0 where
+  pub closes : word ≡ step.first → new ≡ with_view old (record (view_of old) { closed = 1; count = step.first / finished_unit })
+  pub in_vain : word ≢ step.first → new ≡ with_view old (record (view_of old) { tries = (view_of old).tries + 1; seen = word })
 
--- a seat that has all parts learns that the word is its own, and what follows from the closed bit
-abbrev pub Learns : Step (Unit {0}) → Sat → ℕ → Sat → Type 0
-Learns step old word new =
-    (new ≡ old)
-    × (old.0.parts ≡ most_senders → old.0.receives ≡ 1 → (word ≡ word_of (old.0 ∷ [])) × (1 ≤ old.0.closed → old.0.finished ≡ old.0.count) × (1 ≤ old.0.found → old.0.closed ≡ 1))
+-- what the word says to a seat that stands for all senders: it is the seat's own, a closed latch was closed at what was
+-- finished, and a latch that was found closed is
+pub record Tells (view : RingView) (word : ℕ) : Type 0 where
+  pub own : word ≡ word_of (view ∷ [])
+  pub settled : 1 ≤ view.closed → view.finished ≡ view.count
+  pub found : 1 ≤ view.found → view.closed ≡ 1
+
+pub record Learns (step : Step (Unit {0})) (old : Sat) (word : ℕ) (new : Sat) : Type 0 where
+  pub same : new ≡ old
+  pub tells : (view_of old).parts ≡ most_senders → (view_of old).receives ≡ 1 → Tells (view_of old) word

@@ -1,4 +1,5 @@
-//! Latches: one atomic word each that counts who is at work on a shared object, and closes only when nobody is.
+//! Latches: one atomic word each that counts who is at work on a shared object, and closes only when nobody is. A seat is
+//! what its holder knows of the word, and by it alone the holder changes or reads it.
 //!
 //! A ring's latch counts the senders that are inside a send and the messages that were finished. It closes only in a
 //! step that finds nobody inside and every finished message taken. From then on no sender gets in, so nothing that

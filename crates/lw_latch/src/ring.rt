@@ -12,10 +12,10 @@ use std::alloc::Global;
 use std::marker::Model;
 use std::sync::Arc;
 
-/// How many words the table has, and which of them is the latch's: 64 bytes stand before it and 56 behind it, so that it
-/// lies alone on its cache line.
+/// How many words the table has.
 const WORDS: usize = 16;
 
+/// Which of them is the latch's: 64 bytes stand before it and 56 behind it, so that it lies alone on its cache line.
 const WORD: usize = 8;
 
 /// What the closed bit adds to the word. Below it the word counts the senders inside.
@@ -36,9 +36,9 @@ pub enum Enter {
 /// What `close` found.
 #[derive(Clone, Copy, PartialEq, Eq, Debug)]
 pub enum Closing {
-    /// Nobody was inside and every finished message was taken. The latch is closed.
+    /// The word was that of nobody inside and as many finished messages as were taken. The latch is closed.
     Closed,
-    /// The word was `seen`: somebody was inside, or there were more finished messages than were taken.
+    /// The word was `seen`, another one: somebody was inside, or not as many messages were finished.
     NotYet { seen: u64 },
 }
 
@@ -50,19 +50,14 @@ pub struct LatchSend {
 }
 
 impl Model for LatchSend {
-    ghost use Rattle.lw_latch.specs.RingEnds.{RingEnd, IsSender};
-    ghost use Rattle.std.specs.Prelude.{◌≡◌, []};
+    ghost use Rattle.lw_latch.specs.RingEnds.{RingEnd, IsSender, IsSeatOf};
     ghost use Rattle.std.specs.Arc.{arc_value};
 
     ghost Value = { RingEnd };
 
     ghost view = { λ s. record { latch = s.seat.table_id; view = s.seat.me.0 } };
 
-    ghost invariant = { λ s.
-        (s.seat.table_id ≡ (arc_value s.table).shared.table_id)
-        × (s.seat.table_id.words ≡ 16)
-        × (s.seat.me.1 ≡ [])
-        × IsSender s.seat.me.0 };
+    ghost invariant = { λ s. IsSeatOf IsSender (arc_value s.table).shared.table_id s.seat };
 }
 
 /// The receiver's seat.
@@ -73,19 +68,14 @@ pub struct LatchRecv {
 }
 
 impl Model for LatchRecv {
-    ghost use Rattle.lw_latch.specs.RingEnds.{RingEnd, IsReceiver};
-    ghost use Rattle.std.specs.Prelude.{◌≡◌, []};
+    ghost use Rattle.lw_latch.specs.RingEnds.{RingEnd, IsReceiver, IsSeatOf};
     ghost use Rattle.std.specs.Arc.{arc_value};
 
     ghost Value = { RingEnd };
 
     ghost view = { λ s. record { latch = s.seat.table_id; view = s.seat.me.0 } };
 
-    ghost invariant = { λ s.
-        (s.seat.table_id ≡ (arc_value s.table).shared.table_id)
-        × (s.seat.table_id.words ≡ 16)
-        × (s.seat.me.1 ≡ [])
-        × IsReceiver s.seat.me.0 };
+    ghost invariant = { λ s. IsSeatOf IsReceiver (arc_value s.table).shared.table_id s.seat };
 }
 
 impl LatchSend {
@@ -140,9 +130,10 @@ impl LatchSend {
 }
 
 impl LatchRecv {
-    /// Closes the latch, in one step, if nobody is inside and `taken` messages are finished.
+    /// Closes the latch, in one step, if nobody is inside and `taken` messages are finished. It is not closed before, and
+    /// `taken` is less than 2^47.
     ///
-    /// `NotYet` comes exactly where the word was another one.
+    /// `NotYet` comes only where the word was another one, which it carries.
     pub fn close(&mut self, taken: u64) -> Closing
         requires not_closed { self.old.view.closed ≡ 0 }
         requires taken { taken < above_all_sent }
@@ -205,7 +196,8 @@ impl LatchRecv {
     }
 }
 
-/// A new latch with its ends, not closed and with nobody inside.
+/// A new latch for 1 to 127 senders, not closed and with nobody inside: the receiver's end and the senders'. Without memory
+/// there is none.
 pub fn ring_latch(alloc: Global, senders: u32) -> Result<(LatchRecv, Vec<LatchSend>), NoMemory>
     requires { (1 ≤ senders) × (senders ≤ most_senders) }
     ensures recv { IfOk result (λ r. r.0.view ≡ record first_view { parts = most_senders - senders }) }

@@ -2,11 +2,11 @@
 use atomic_table::{Join, Play, Split, Table, TableRule};
 use std::alloc::Global;
 
-/// What a seat of a ring's latch knows. Contracts alone see it.
+/// What a seat of a ring's latch knows. Contracts alone see it: no caller makes one.
 ///
 /// Whether something is so is a count of 0 or 1 here, so that the views can be added up.
 pub struct RingView {
-    /// How many senders it stands for. All views together stand for 127, the most that a latch has.
+    /// How many senders it stands for. All views together stand for the most that a latch has.
     pub parts: u64,
     /// Whether it is the receiver's.
     pub receives: u64,
@@ -26,7 +26,7 @@ pub struct RingView {
     pub seen: u64,
 }
 
-/// The rule that ties the word to the views.
+/// The rule that ties the word to the views. It is for no caller.
 pub struct RingRule;
 
 impl TableRule<(), RingView, ()> for RingRule {
@@ -37,7 +37,7 @@ impl TableRule<(), RingView, ()> for RingRule {
     ghost first = { λ _. first_view };
 }
 
-/// The latch's table: its one word and unused ones around it, without slots.
+/// The latch's table: its one word and unused ones around it, without slots. It is for no caller.
 pub type RingTable = Table<(), RingView, (), RingRule, Global>;
 
 pub struct Entering;

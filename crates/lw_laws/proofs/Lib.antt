@@ -1,4 +1,6 @@
 pub mod Joined
 pub mod LineLemmas
 pub mod Local
+pub mod NamedLines
 pub mod ReportLocal
+pub mod RunReports

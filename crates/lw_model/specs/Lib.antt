@@ -4,6 +4,7 @@ pub mod ScriptShape
 pub mod ScriptText
 pub mod ReportText
 pub mod Printable
+pub mod Ranges
 pub mod Replay
 pub mod Threads
 pub mod OwnOrder

@@ -8,9 +8,7 @@ mod script;
 mod step;
 
 pub use laws::{journals_are_of_clients, verdict_is_exact, verdict_is_first};
-pub use lw_base::{
-    DeviceEnd, Home, Hop, Items, Limits, Order, Round, Row, Scheduler, Text,
-};
+pub use lw_base::{DeviceEnd, Home, Hop, Items, Limits, Order, Round, Row, Scheduler, Text};
 pub use record::{
     Answer, Called, Did, Record, Replied, Reply, RoleKind, Seen, SeenBy, Span, ThreadRecord,
 };

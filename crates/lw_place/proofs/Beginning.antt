@@ -13,6 +13,7 @@ use Rattle.lw_place.specs.declared.place.Place.TheVariants as place
 use Rattle.lw_place.specs.declared.table.Stand.{Stand}
 use Rattle.lw_place.specs.declared.table.Homes.{Homes}
 use Rattle.lw_place.specs.declared.table.PlaceView.{PlaceView}
+use Rattle.lw_place.specs.PlaceWord.{most_reactors, first_word}
 use Rattle.lw_place.specs.PlaceSeats.{Places, ThreadEnd}
 use Rattle.lw_place.specs.PlaceTable.{times, stands_from, words_of, first_view, IsStanding, Fits, Placed}
 use Rattle.lw_place.proofs.Standing.{times_here, times_not_here}
@@ -38,17 +39,17 @@ map_at [] k = refl
 map_at (h ∷ hs) zero = refl
 map_at (h ∷ hs) (suc k) = map_at hs k
 
-standing_from : (n r b : ℕ) (ws hs : List ℕ) → ((k : ℕ) → k < length hs → slice_index ws (b + k + 2) ≡ 2 * slice_index hs k) → b + length hs ≤ n → All (λ h. h < r) hs → All (IsStanding n r ws) (stands_from b hs)
+standing_from : (n r b : ℕ) (ws hs : List ℕ) → ((k : ℕ) → k < length hs → slice_index ws (b + k + first_word) ≡ 2 * slice_index hs k) → b + length hs ≤ n → All (λ h. h < r) hs → All (IsStanding n r ws) (stands_from b hs)
 standing_from n r b ws [] at long below = All-nil (IsStanding n r ws)
 standing_from n r b ws (h ∷ hs) at long below =
     let P = IsStanding n r ws in
     let x : Stand = record { thread = b; place = place.List h } in
-    let first : b + 0 + 2 ≡ b + 2 = omega arith in
+    let first : b + 0 + first_word ≡ b + first_word = omega arith in
     All-cons P x (stands_from (b + 1) hs)
     (record { number = omega arith; below = All-head (λ h. h < r) h hs below; word = subst (λ k. slice_index ws k ≡ 2 * h) first (at 0 (omega arith)) })
-    (standing_from n r (b + 1) ws hs (λ k l. (let next : b + suc k + 2 ≡ b + 1 + k + 2 = omega arith in subst (λ i. slice_index ws i ≡ 2 * slice_index hs k) next (at (suc k) (omega arith)))) (omega arith) (All-tail (λ h. h < r) h hs below))
+    (standing_from n r (b + 1) ws hs (λ k l. (let next : b + suc k + first_word ≡ b + 1 + k + first_word = omega arith in subst (λ i. slice_index ws i ≡ 2 * slice_index hs k) next (at (suc k) (omega arith)))) (omega arith) (All-tail (λ h. h < r) h hs below))
 
-pub begins : (homes : Homes) (ws : List ℕ) → ws ≡ words_of homes.of.items → homes.reactors ≤ 16 → All (λ h. h < homes.reactors) homes.of.items → Placed homes (opening ws [] (first_view homes))
+pub begins : (homes : Homes) (ws : List ℕ) → ws ≡ words_of homes.of.items → homes.reactors ≤ most_reactors → All (λ h. h < homes.reactors) homes.of.items → Placed homes (opening ws [] (first_view homes))
 begins homes ws is few below = subst (λ l. Placed homes (opening l [] (first_view homes))) (sym is) (
     let hs = homes.of.items in
     let n : ℕ = length hs in
@@ -61,13 +62,13 @@ begins homes ws is few below = subst (λ l. Placed homes (opening l [] (first_vi
       done = refl;
       halt = refl;
       all_desks = omega arith;
-      all_seats = omega arith;
-      one_seat = λ t b. (let c = times_from t 0 hs (omega arith) (omega arith) in omega arith);
+      all_threads_stand = omega arith;
+      stands_once = λ t b. (let c = times_from t 0 hs (omega arith) (omega arith) in omega arith);
       each = λ j u e. ⊎_elim (λ (x : get_elem? {A = PlaceView} [] j ≡ some u). absurd (some-ne-none u (sym x)))
           (λ (x : first_view homes ≡ u). subst (λ y. Fits n homes.reactors ws' 0 0 y) x
           (record {
             of_table = λ _. (refl, refl);
-            standing = standing_from n homes.reactors 0 ws' hs (λ k l. (let at : suc (suc k) ≡ 0 + k + 2 = omega arith in subst (λ i. slice_index ws' i ≡ 2 * slice_index hs k) at (map_at hs k))) (omega arith) below;
+            standing = standing_from n homes.reactors 0 ws' hs (λ k l. (let at : suc (suc k) ≡ 0 + k + first_word = omega arith in subst (λ i. slice_index ws' i ≡ 2 * slice_index hs k) at (map_at hs k))) (omega arith) below;
             retired_desks = omega arith;
             halted_desks = omega arith;
             done_seen = omega arith;

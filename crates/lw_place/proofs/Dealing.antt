@@ -10,7 +10,7 @@ use Rattle.lw_place.specs.declared.table.Stand.{Stand}
 use Rattle.lw_place.specs.declared.table.Homes.{Homes}
 use Rattle.lw_place.specs.declared.table.PlaceView.{PlaceView}
 use Rattle.lw_base.specs.Totals.{total}
-use Rattle.lw_place.specs.PlaceTable.{desks, retired, halted, seats, seats_of, times, IsStanding, Fits, Placed, first_thread, less_first_thread, one_desk, less_one_desk, joined, spent_view, firsts, others}
+use Rattle.lw_place.specs.PlaceTable.{desks, retired, halted, thread_count, count_of, times, IsStanding, Fits, Placed, first_thread, less_first_thread, one_desk, less_one_desk, joined, spent_view, firsts, others}
 use Rattle.lw_base.proofs.Totals.{total_set, total_snoc}
 use Rattle.lw_place.proofs.Standing.{times_append, times_first, length_first}
 use Rattle.lw_place.proofs.Rule.{St}
@@ -20,7 +20,7 @@ record Parts (v w u : PlaceView) : Type 0 where
   desks : w.desks + u.desks ≡ v.desks
   retired : w.retired + u.retired ≡ v.retired
   halted : w.halted + u.halted ≡ v.halted
-  seats : length w.stands + length u.stands ≡ length v.stands
+  count : length w.stands + length u.stands ≡ length v.stands
   times : (t : ℕ) → times t w.stands + times t u.stands ≡ times t v.stands
 
 module _ (homes : Homes) where
@@ -41,15 +41,15 @@ module _ (homes : Homes) where
       let pd = p.desks in
       let pr = p.retired in
       let ph = p.halted in
-      let ps = p.seats in
+      let ps = p.count in
       let td = total_set desks s.views id v w at in
       let tr = total_set retired s.views id v w at in
       let th = total_set halted s.views id v w at in
-      let ts = total_set seats s.views id v w at in
+      let ts = total_set thread_count s.views id v w at in
       let sd = total_snoc desks vs u in
       let sr = total_snoc retired vs u in
       let sh = total_snoc halted vs u in
-      let ss = total_snoc seats vs u in
+      let ss = total_snoc thread_count vs u in
       let done : total retired s.views ≡ total retired new = omega arith in
       let halts : total halted s.views ≡ total halted new = omega arith in
       record {
@@ -58,8 +58,8 @@ module _ (homes : Homes) where
         done = h.done ∙ done;
         halt = h.halt ∙ ap (λ k. min 1 k) halts;
         all_desks = (let a = h.all_desks in omega arith);
-        all_seats = (let a = h.all_seats in omega arith);
-        one_seat = λ t b. (let tt = total_set (seats_of t) s.views id v w at in let st = total_snoc (seats_of t) vs u in let q = p.times t in let a = h.one_seat t b in omega arith);
+        all_threads_stand = (let a = h.all_threads_stand in omega arith);
+        stands_once = λ t b. (let tt = total_set (count_of t) s.views id v w at in let st = total_snoc (count_of t) vs u in let q = p.times t in let a = h.stands_once t b in omega arith);
         each = λ j y e. fits_as s (total retired new) (total halted new) y done halts
             (⊎_elim
             (λ (here : get_elem? vs j ≡ some y). ⊎_elim
@@ -74,7 +74,7 @@ module _ (homes : Homes) where
   deals_thread id v s h at =
       let g = h.each id v at in
       dealt s id v (less_first_thread v) (first_thread v) h at
-      (record { desks = omega arith; retired = omega arith; halted = omega arith; seats = length_first v.stands; times = λ t. times_first t v.stands })
+      (record { desks = omega arith; retired = omega arith; halted = omega arith; count = length_first v.stands; times = λ t. times_first t v.stands })
       (record { of_table = g.of_table; standing = rest v.stands g.standing; retired_desks = g.retired_desks; halted_desks = g.halted_desks; done_seen = g.done_seen; halt_seen = g.halt_seen })
       (record { of_table = g.of_table; standing = first v.stands g.standing; retired_desks = omega arith; halted_desks = omega arith; done_seen = omega arith; halt_seen = omega arith })
     where
@@ -90,7 +90,7 @@ module _ (homes : Homes) where
   deals_desk id v some_desk idle going s h at =
       let g = h.each id v at in
       dealt s id v (less_one_desk v) (one_desk v) h at
-      (record { desks = omega arith; retired = omega arith; halted = omega arith; seats = omega arith; times = λ t. omega arith })
+      (record { desks = omega arith; retired = omega arith; halted = omega arith; count = omega arith; times = λ t. omega arith })
       (record { of_table = g.of_table; standing = g.standing; retired_desks = omega arith; halted_desks = omega arith; done_seen = g.done_seen; halt_seen = g.halt_seen })
       (record { of_table = g.of_table; standing = All-nil (IsStanding (length homes.of.items) homes.reactors s.words); retired_desks = omega arith; halted_desks = omega arith; done_seen = omega arith; halt_seen = omega arith })
 
@@ -106,11 +106,11 @@ module _ (homes : Homes) where
       let td = total_set desks s.views id v w at in
       let tr = total_set retired s.views id v w at in
       let th = total_set halted s.views id v w at in
-      let ts = total_set seats s.views id v w at in
+      let ts = total_set thread_count s.views id v w at in
       let sd = total_set desks vs other u spent_view there in
       let sr = total_set retired vs other u spent_view there in
       let sh = total_set halted vs other u spent_view there in
-      let ss = total_set seats vs other u spent_view there in
+      let ss = total_set thread_count vs other u spent_view there in
       let done : total retired s.views ≡ total retired new = omega arith in
       let halts : total halted s.views ≡ total halted new = omega arith in
       let P = IsStanding (length homes.of.items) homes.reactors s.words in
@@ -129,8 +129,8 @@ module _ (homes : Homes) where
         done = h.done ∙ done;
         halt = h.halt ∙ ap (λ k. min 1 k) halts;
         all_desks = (let a = h.all_desks in omega arith);
-        all_seats = (let a = h.all_seats in omega arith);
-        one_seat = λ t b. (let tt = total_set (seats_of t) s.views id v w at in let st = total_set (seats_of t) vs other u spent_view there in let q = times_append t v.stands u.stands in let a = h.one_seat t b in omega arith);
+        all_threads_stand = (let a = h.all_threads_stand in omega arith);
+        stands_once = λ t b. (let tt = total_set (count_of t) s.views id v w at in let st = total_set (count_of t) vs other u spent_view there in let q = times_append t v.stands u.stands in let a = h.stands_once t b in omega arith);
         each = λ j y e. fits_as s (total retired new) (total halted new) y done halts
             (⊎_elim
             (λ (x : (j ≡ other) × (spent_view ≡ y)). subst (FitsIn s) x.1 spent)

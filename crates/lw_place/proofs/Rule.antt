@@ -5,11 +5,11 @@ use mathlib.Core.Option.{some}
 use lib.ListN.{get_elem?}
 use Rattle.atomic_table.specs.Table.{State}
 use Rattle.atomic_table.proofs.Lists.{at_set}
-use Rattle.lw_place.specs.PlaceWord.{most_threads}
+use Rattle.lw_place.specs.PlaceWord.{most_threads, done_word, halt_word}
 use Rattle.lw_place.specs.declared.table.Homes.{Homes}
 use Rattle.lw_place.specs.declared.table.PlaceView.{PlaceView}
 use Rattle.lw_base.specs.Totals.{total}
-use Rattle.lw_place.specs.PlaceTable.{desks, retired, halted, seats, seats_of, times, IsStanding, Fits, Placed}
+use Rattle.lw_place.specs.PlaceTable.{desks, retired, halted, thread_count, count_of, times, IsStanding, Fits, Placed}
 use Rattle.lw_base.proofs.Totals.{total_set}
 
 abbrev pub St : Type 0
@@ -20,7 +20,7 @@ pub record Follows (v w : PlaceView) : Type 0 where
   pub threads : w.threads ≡ v.threads
   pub reactors : w.reactors ≡ v.reactors
   pub desks : w.desks ≡ v.desks
-  pub seats : length w.stands ≡ length v.stands
+  pub count : length w.stands ≡ length v.stands
   pub times : (t : ℕ) → times t w.stands ≡ times t v.stands
   pub retired : v.retired ≤ w.retired
   pub halted : v.halted ≤ w.halted
@@ -28,13 +28,13 @@ pub record Follows (v w : PlaceView) : Type 0 where
 -- the words ws are those that the changed view makes
 pub record Makes (homes : Homes) (s : St) (id : ℕ) (v w : PlaceView) (ws : List ℕ) : Type 0 where
   pub words : length ws ≡ length s.words
-  pub done : slice_index ws 0 + v.retired ≡ slice_index s.words 0 + w.retired
-  pub halt : slice_index ws 1 ≡ min 1 (total halted (set s.views id w))
+  pub done : slice_index ws done_word + v.retired ≡ slice_index s.words done_word + w.retired
+  pub halt : slice_index ws halt_word ≡ min 1 (total halted (set s.views id w))
   pub apart : (j : ℕ) (u : PlaceView) → j ≢ id → get_elem? s.views j ≡ some u → All (IsStanding (length homes.of.items) homes.reactors ws) u.stands
   pub own : All (IsStanding (length homes.of.items) homes.reactors ws) w.stands
   pub retired_desks : w.retired ≤ most_threads * w.desks
   pub halted_desks : w.halted ≤ w.desks
-  pub done_seen : w.done_seen ≤ slice_index ws 0
+  pub done_seen : w.done_seen ≤ slice_index ws done_word
   pub halt_seen : w.halt_seen ≤ total halted (set s.views id w)
 
 pub changed : (homes : Homes) (s : St) (id : ℕ) (v w : PlaceView) (ws : List ℕ) → Placed homes s → get_elem? s.views id ≡ some v → Follows v w → Makes homes s id v w ws
@@ -45,14 +45,14 @@ changed homes s id v w ws h at f m =
     let td = total_set desks s.views id v w at in
     let tr = total_set retired s.views id v w at in
     let th = total_set halted s.views id v w at in
-    let ts = total_set seats s.views id v w at in
+    let ts = total_set thread_count s.views id v w at in
     let fd = f.desks in
-    let fs = f.seats in
+    let fs = f.count in
     let fr = f.retired in
     let fh = f.halted in
     let md = m.done in
     let hd = h.done in
-    let now : slice_index ws 0 ≡ total retired vs = omega arith in
+    let now : slice_index ws done_word ≡ total retired vs = omega arith in
     let more : total retired s.views ≤ total retired vs = omega arith in
     let more_halts : total halted s.views ≤ total halted vs = omega arith in
     record {
@@ -61,8 +61,8 @@ changed homes s id v w ws h at f m =
       done = now;
       halt = m.halt;
       all_desks = (let a = h.all_desks in omega arith);
-      all_seats = (let a = h.all_seats in omega arith);
-      one_seat = λ t b. (let tt = total_set (seats_of t) s.views id v w at in let same = f.times t in let a = h.one_seat t b in omega arith);
+      all_threads_stand = (let a = h.all_threads_stand in omega arith);
+      stands_once = λ t b. (let tt = total_set (count_of t) s.views id v w at in let same = f.times t in let a = h.stands_once t b in omega arith);
       each = λ j u e. ⊎_elim
           (λ (x : (j ≡ id) × (w ≡ u)). subst (λ y. Fits n homes.reactors ws (total retired vs) (total halted vs) y) x.1
           (record {

@@ -1,12 +1,13 @@
 -- What callers see of the seats.
 use Rattle.std.specs.Prelude.{◌≡◌, ◌⊎◌, ℕ, ◌+◌, ◌<◌, ◌≤◌, max, List, [], ◌∷◌, length, replicate, All, Any, slice_index_or, Option, None}
 use Rattle.atomic_table.specs.Seated.{TableId}
+use Rattle.atomic_table.specs.declared.shared.Seat.{Seat}
 use Rattle.lw_place.specs.declared.place.Place.TheVariants as place
 use Rattle.lw_place.specs.declared.place.Place.{Place}
 use Rattle.lw_place.specs.declared.table.Stand.{Stand}
 use Rattle.lw_place.specs.declared.table.PlaceView.{PlaceView}
 use Rattle.lw_base.specs.Totals.{total}
-use Rattle.lw_place.specs.PlaceWord.{most_threads, most_reactors}
+use Rattle.lw_place.specs.PlaceWord.{most_threads, most_reactors, first_word, IsBelow}
 use Rattle.lw_place.specs.PlaceTable.{new_view}
 
 -- which places: their table, and how many threads and reactors they are for
@@ -55,7 +56,7 @@ IsEvent p = (reactor : ℕ) × (p ≡ place.Event reactor)
 
 -- the view is that of a seat which was not joined away, of a table with a word for each thread
 pub record IsSeat (table : TableId) (v : PlaceView) : Type 0 where
-  pub words : table.words ≡ v.threads + 2
+  pub words : table.words ≡ v.threads + first_word
   pub some_threads : 1 ≤ v.threads
   pub few_threads : v.threads ≤ most_threads
   pub few_reactors : v.reactors ≤ most_reactors
@@ -63,6 +64,26 @@ pub record IsSeat (table : TableId) (v : PlaceView) : Type 0 where
 -- the view of a thread's seat
 abbrev pub thread_view : ℕ → ℕ → Stand → PlaceView
 thread_view threads reactors x = new_view threads reactors (x ∷ []) 0
+
+-- what every seat keeps: it is at the words of its table, holds no slot, and knows which places it is of
+pub record KeepsSeat (table : TableId) (seat : Seat (Unit {0}) PlaceView) : Type 0 where
+  pub same_table : seat.table_id ≡ table
+  pub no_slots : seat.me.1 ≡ []
+  pub knows : IsSeat seat.table_id seat.me.0
+
+-- what a thread's seat keeps besides: it stands for the thread, at the place that is kept beside it
+pub record KeepsThread (table : TableId) (seat : Seat (Unit {0}) PlaceView) (thread : ℕ) (place : Place) : Type 0 where
+  pub keeps : KeepsSeat table seat
+  pub view : seat.me.0 ≡ thread_view seat.me.0.threads seat.me.0.reactors (record { thread = thread; place = place })
+  pub number : thread < seat.me.0.threads
+  pub below : IsBelow seat.me.0.reactors place
+
+-- what a desk's seat keeps besides: it stands for one desk and for no thread
+pub record KeepsDesk (table : TableId) (seat : Seat (Unit {0}) PlaceView) : Type 0 where
+  pub keeps : KeepsSeat table seat
+  pub one_desk : seat.me.0.desks ≡ 1
+  pub no_threads : seat.me.0.stands ≡ []
+  pub once : seat.me.0.halted ≤ 1
 
 -- a new desk
 abbrev pub new_desk : Places → DeskEnd

@@ -1,5 +1,4 @@
--- The words of the places and what ties them to the seats. Word 0 counts the retired threads, word 1 is the halt word,
--- and word t + 2 is the place of thread t.
+-- The words of the places and what ties them to the seats.
 use Rattle.std.specs.Prelude.{◌≡◌, ℕ, ◌+◌, ◌-◌, ◌*◌, ◌<◌, ◌≤◌, ◌==◌, if◌then◌else◌, min, max, List, [], ◌∷◌, ◌++◌, length, map, slice_index, All, Contains, Some, None}
 use mathlib.Core.Option.{some}
 use lib.ListN.{get_elem?}
@@ -10,7 +9,7 @@ use Rattle.lw_place.specs.declared.table.Stand.{Stand}
 use Rattle.lw_place.specs.declared.table.Homes.{Homes}
 use Rattle.lw_place.specs.declared.table.PlaceView.{PlaceView}
 use Rattle.lw_base.specs.Totals.{total}
-use Rattle.lw_place.specs.PlaceWord.{most_threads, most_reactors, word_of, place_of, IsBelow, IsWord}
+use Rattle.lw_place.specs.PlaceWord.{most_threads, most_reactors, done_word, halt_word, first_word, word_of, place_of, IsBelow, IsWord}
 
 abbrev pub desks : PlaceView → ℕ
 desks v = v.desks
@@ -22,22 +21,23 @@ abbrev pub halted : PlaceView → ℕ
 halted v = v.halted
 
 -- how many threads a view stands for
-abbrev pub seats : PlaceView → ℕ
-seats v = length v.stands
+abbrev pub thread_count : PlaceView → ℕ
+thread_count v = length v.stands
 
 -- how often a thread is among these
 abbrev pub times : ℕ → List Stand → ℕ
 times thread [] = 0
 times thread (x ∷ xs) = (if x.thread == thread then 1 else 0) + times thread xs
 
-abbrev pub seats_of : ℕ → PlaceView → ℕ
-seats_of thread v = times thread v.stands
+-- how often a view stands for a thread
+abbrev pub count_of : ℕ → PlaceView → ℕ
+count_of thread v = times thread v.stands
 
 -- the thread is one of so many, its reactor too, and its word is its place
 pub record IsStanding (threads reactors : ℕ) (words : List ℕ) (x : Stand) : Type 0 where
   pub number : x.thread < threads
   pub below : IsBelow reactors x.place
-  pub word : slice_index words (x.thread + 2) ≡ word_of x.place
+  pub word : slice_index words (x.thread + first_word) ≡ word_of x.place
 
 -- what the rule says of one view, where so many threads are retired and so many desks have halted
 pub record Fits (threads reactors : ℕ) (words : List ℕ) (done halts : ℕ) (v : PlaceView) : Type 0 where
@@ -55,12 +55,12 @@ pub record Fits (threads reactors : ℕ) (words : List ℕ) (done halts : ℕ) (
 -- retired, and the halt word is 1 exactly where a desk has halted
 pub record Placed (homes : Homes) (s : State (Unit {0}) PlaceView) : Type 0 where
   pub few : homes.reactors ≤ most_reactors
-  pub words : length s.words ≡ length homes.of.items + 2
-  pub done : slice_index s.words 0 ≡ total retired s.views
-  pub halt : slice_index s.words 1 ≡ min 1 (total halted s.views)
+  pub words : length s.words ≡ length homes.of.items + first_word
+  pub done : slice_index s.words done_word ≡ total retired s.views
+  pub halt : slice_index s.words halt_word ≡ min 1 (total halted s.views)
   pub all_desks : total desks s.views ≡ homes.reactors
-  pub all_seats : total seats s.views ≡ length homes.of.items
-  pub one_seat : (thread : ℕ) → thread < length homes.of.items → total (seats_of thread) s.views ≡ 1
+  pub all_threads_stand : total thread_count s.views ≡ length homes.of.items
+  pub stands_once : (thread : ℕ) → thread < length homes.of.items → total (count_of thread) s.views ≡ 1
   pub each : (i : ℕ) (v : PlaceView) → get_elem? s.views i ≡ some v → Fits (length homes.of.items) homes.reactors s.words (total retired s.views) (total halted s.views) v
 
 -- the threads from a number on, each in the list of its home
@@ -121,8 +121,15 @@ joined v w = record {
 }
 
 -- a seat: its view, and the slots that it holds, none here
-abbrev Sat : Type 0
+abbrev pub Sat : Type 0
 Sat = Me (Unit {0}) PlaceView
+
+abbrev pub view_of : Sat → PlaceView
+view_of seat = seat.0
+
+-- the seat with another view
+abbrev pub with_view : Sat → PlaceView → Sat
+with_view seat view = (view, seat.1)
 
 -- What each kind of step tells, of the seat before it, the word that it found and the seat after it.
 
@@ -132,44 +139,47 @@ moved_to p [] = []
 moved_to p (x ∷ xs) = record x { place = p } ∷ xs
 
 abbrev pub Moves : Step (Unit {0}) → Sat → ℕ → Sat → Type 0
-Moves step old word new = new ≡ (record old.0 { stands = moved_to (place_of step.first) old.0.stands }, old.1)
+Moves step old word new = new ≡ with_view old (record (view_of old) { stands = moved_to (place_of step.first) (view_of old).stands })
 
 abbrev pub Retires : Step (Unit {0}) → Sat → ℕ → Sat → Type 0
-Retires step old word new = new ≡ (record old.0 { retired = old.0.retired + 1 }, old.1)
+Retires step old word new = new ≡ with_view old (record (view_of old) { retired = (view_of old).retired + 1 })
 
 abbrev pub Halts : Step (Unit {0}) → Sat → ℕ → Sat → Type 0
-Halts step old word new = new ≡ (record old.0 { halted = 1 }, old.1)
+Halts step old word new = new ≡ with_view old (record (view_of old) { halted = 1 })
 
-abbrev pub LooksAtDone : Step (Unit {0}) → Sat → ℕ → Sat → Type 0
-LooksAtDone step old word new =
-    (new ≡ (record old.0 { looks = old.0.looks + 1; done_seen = word }, old.1))
-    × (old.0.done_seen ≤ word)
-    × (old.0.retired ≤ word)
+-- the count is no less than what was seen of it before, and than what the seat has retired itself
+pub record LooksAtDone (step : Step (Unit {0})) (old : Sat) (word : ℕ) (new : Sat) : Type 0 where
+  pub sees : new ≡ with_view old (record (view_of old) { looks = (view_of old).looks + 1; done_seen = word })
+  pub no_less : (view_of old).done_seen ≤ word
+  pub own : (view_of old).retired ≤ word
 
-abbrev pub LooksAtHalt : Step (Unit {0}) → Sat → ℕ → Sat → Type 0
-LooksAtHalt step old word new =
-    (new ≡ (record old.0 { looks = old.0.looks + 1; halt_seen = word }, old.1))
-    × (word ≤ 1)
-    × (1 ≤ max old.0.halted old.0.halt_seen → word ≡ 1)
+-- the halt word is 0 or 1, and it is 1 where the seat has halted the run or has seen it halted
+pub record LooksAtHalt (step : Step (Unit {0})) (old : Sat) (word : ℕ) (new : Sat) : Type 0 where
+  pub sees : new ≡ with_view old (record (view_of old) { looks = (view_of old).looks + 1; halt_seen = word })
+  pub bit : word ≤ 1
+  pub stays : 1 ≤ max (view_of old).halted (view_of old).halt_seen → word ≡ 1
 
-abbrev pub Looks : Step (Unit {0}) → Sat → ℕ → Sat → Type 0
-Looks step old word new =
-    (new ≡ (record old.0 { looks = old.0.looks + 1; found = Some (record { thread = step.word - 2; place = place_of word }) }, old.1))
-    × IsBelow old.0.reactors (place_of word)
-    × IsWord word
+-- the word of a thread holds a place, in one of the run's reactors
+pub record Looks (step : Step (Unit {0})) (old : Sat) (word : ℕ) (new : Sat) : Type 0 where
+  pub sees : new ≡ with_view old (record (view_of old) {
+    looks = (view_of old).looks + 1;
+    found = Some (record { thread = step.word - first_word; place = place_of word });
+  })
+  pub below : IsBelow (view_of old).reactors (place_of word)
+  pub fits : IsWord word
 
 -- a seat with all desks learns that the count is its own; it stands for no more threads than there are, for each at most
 -- once, and what it saw of the count is at most the count
-abbrev pub LearnsDone : Step (Unit {0}) → Sat → ℕ → Sat → Type 0
-LearnsDone step old word new =
-    (new ≡ old)
-    × (old.0.desks ≡ old.0.reactors → word ≡ old.0.retired)
-    × (old.0.done_seen ≤ word)
-    × (length old.0.stands ≤ old.0.threads)
-    × ((thread : ℕ) → thread < old.0.threads → times thread old.0.stands ≤ 1)
+pub record LearnsDone (step : Step (Unit {0})) (old : Sat) (word : ℕ) (new : Sat) : Type 0 where
+  pub same : new ≡ old
+  pub all : (view_of old).desks ≡ (view_of old).reactors → word ≡ (view_of old).retired
+  pub seen : (view_of old).done_seen ≤ word
+  pub few : length (view_of old).stands ≤ (view_of old).threads
+  pub once : (thread : ℕ) → thread < (view_of old).threads → times thread (view_of old).stands ≤ 1
 
-abbrev pub LearnsHalt : Step (Unit {0}) → Sat → ℕ → Sat → Type 0
-LearnsHalt step old word new = (new ≡ old) × (old.0.desks ≡ old.0.reactors → word ≡ min 1 old.0.halted)
+pub record LearnsHalt (step : Step (Unit {0})) (old : Sat) (word : ℕ) (new : Sat) : Type 0 where
+  pub same : new ≡ old
+  pub all : (view_of old).desks ≡ (view_of old).reactors → word ≡ min 1 (view_of old).halted
 
 -- the thread is one of these, and all of these that are it stand there
 pub record StandsAt (xs : List Stand) (thread : ℕ) (p : Place) : Type 0 where
@@ -177,7 +187,7 @@ pub record StandsAt (xs : List Stand) (thread : ℕ) (p : Place) : Type 0 where
   pub alone : All (λ x. x.thread ≡ thread → x.place ≡ p) xs
 
 -- a seat with all threads learns where the one of this word stands, which is one of its own
-abbrev pub Learns : Step (Unit {0}) → Sat → ℕ → Sat → Type 0
-Learns step old word new =
-    (new ≡ old)
-    × (length old.0.stands ≡ old.0.threads → IsWord word × StandsAt old.0.stands (step.word - 2) (place_of word))
+pub record Learns (step : Step (Unit {0})) (old : Sat) (word : ℕ) (new : Sat) : Type 0 where
+  pub same : new ≡ old
+  pub fits : length (view_of old).stands ≡ (view_of old).threads → IsWord word
+  pub there : length (view_of old).stands ≡ (view_of old).threads → StandsAt (view_of old).stands (step.word - first_word) (place_of word)

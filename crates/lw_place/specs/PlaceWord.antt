@@ -1,18 +1,32 @@
 -- The word of a light thread: 2c in the list of reactor c, 2c + 1 in an event to c, the greatest u64 once it has ended.
 use Rattle.std.specs.Prelude.{◌≢◌, ℕ, ◌+◌, ◌*◌, ◌/◌, ◌%◌, ◌<◌, ◌==◌, if◌then◌else◌, ⊤}
+use Rattle.lw_base.specs.Words.{greatest_u64, above_u32}
 use Rattle.lw_place.specs.declared.place.Place.{Place}
 use Rattle.lw_place.specs.declared.place.Place.TheVariants as place
 
--- the most light threads and reactors
+-- the most light threads
 abbrev pub most_threads : ℕ
 most_threads = 127
 
+-- the most reactors
 abbrev pub most_reactors : ℕ
 most_reactors = 16
 
+-- which word of the table counts the retired threads
+abbrev pub done_word : ℕ
+done_word = 0
+
+-- which one is the halt word
+abbrev pub halt_word : ℕ
+halt_word = 1
+
+-- which one is the word of thread 0, behind which those of the others follow
+abbrev pub first_word : ℕ
+first_word = 2
+
 -- the word of a thread that has ended
 abbrev pub ended_word : ℕ
-ended_word = 18446744073709551615
+ended_word = greatest_u64
 
 abbrev pub word_of : Place → ℕ
 word_of (place.List reactor) = 2 * reactor
@@ -34,4 +48,4 @@ IsBelow reactors place.Ended = ⊤
 
 -- the word is that of an ended thread, or of a reactor whose number fits 32 bits
 abbrev pub IsWord : ℕ → Type 0
-IsWord word = word ≢ ended_word → word < 2 * 4294967296
+IsWord word = word ≢ ended_word → word < 2 * above_u32

@@ -27,18 +27,14 @@ pub(crate) struct Bundle {
 }
 
 impl Model for Bundle {
-    ghost use Rattle.lw_place.specs.PlaceSeats.{BundleEnd, IsSeat};
-    ghost use Rattle.std.specs.Prelude.{◌≡◌, []};
+    ghost use Rattle.lw_place.specs.PlaceSeats.{BundleEnd, KeepsSeat};
     ghost use Rattle.std.specs.Arc.{arc_value};
 
     ghost Value = { BundleEnd };
 
     ghost view = { λ s. record { table = s.seat.table_id; view = s.seat.me.0 } };
 
-    ghost invariant = { λ s.
-        (s.seat.table_id ≡ (arc_value s.table).shared.table_id)
-        × (s.seat.me.1 ≡ [])
-        × IsSeat s.seat.table_id s.seat.me.0 };
+    ghost invariant = { λ s. KeepsSeat (arc_value s.table).shared.table_id s.seat };
 }
 
 impl Bundle {

@@ -22,21 +22,14 @@ pub struct DeskSeat {
 }
 
 impl Model for DeskSeat {
-    ghost use Rattle.lw_place.specs.PlaceSeats.{DeskEnd, IsSeat, desk_of};
-    ghost use Rattle.std.specs.Prelude.{◌≡◌, ◌≤◌, []};
+    ghost use Rattle.lw_place.specs.PlaceSeats.{DeskEnd, KeepsDesk, desk_of};
     ghost use Rattle.std.specs.Arc.{arc_value};
 
     ghost Value = { DeskEnd };
 
     ghost view = { λ s. desk_of s.seat.table_id s.seat.me.0 };
 
-    ghost invariant = { λ s.
-        (s.seat.table_id ≡ (arc_value s.table).shared.table_id)
-        × (s.seat.me.1 ≡ [])
-        × IsSeat s.seat.table_id s.seat.me.0
-        × (s.seat.me.0.desks ≡ 1)
-        × (s.seat.me.0.stands ≡ [])
-        × (s.seat.me.0.halted ≤ 1) };
+    ghost invariant = { λ s. KeepsDesk (arc_value s.table).shared.table_id s.seat };
 }
 
 impl DeskSeat {
@@ -98,7 +91,7 @@ impl DeskSeat {
             == 1
     }
 
-    /// Halts the run: from now on every desk finds it halted.
+    /// Halts the run. From then on this desk finds it halted, and `gather` tells it.
     pub fn halt(&mut self)
         ensures { self.new ≡ record self.old { halted = 1 } }
     {
@@ -107,9 +100,9 @@ impl DeskSeat {
 
     // The same seat, to be gathered.
     pub(crate) fn into_bundle(self) -> Bundle
-        ensures { (desk_of result.table result.view ≡ self)
-            × (result.view.desks ≡ 1)
-            × (result.view.stands ≡ []) }
+        ensures desk { desk_of result.table result.view ≡ self }
+        ensures one_desk { result.view.desks ≡ 1 }
+        ensures no_threads { result.view.stands ≡ [] }
     {
         let DeskSeat { table, seat } = self;
         Bundle { table, seat }

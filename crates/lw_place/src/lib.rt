@@ -1,7 +1,9 @@
 //! Where each light thread stands: in the list of a reactor, on its way to one, or ended.
 //!
-//! All light threads of a run share one table of atomic words. Each thread has a seat, which alone moves the thread, and
-//! each reactor has a desk, which counts the threads that it retired, says when the run is to stop, and looks.
+//! All light threads of a run share one table of atomic words. A seat is what its holder knows of these words, and by it
+//! alone the holder changes or reads them. Each thread has a seat, which alone moves the thread, and each reactor has a desk,
+//! a seat that counts the threads that it retired, says when the run is to stop, and looks. To gather is to join all seats
+//! into one, which then knows the words.
 #![tactic(auto)]
 
 mod bundle;

@@ -13,13 +13,13 @@ pub(crate) const HALT: usize = 1;
 /// The word of thread 0. Those of the others follow.
 pub(crate) const FIRST_THREAD: usize = 2;
 
-/// A light thread, by its number from 0, and where it stands.
+/// A light thread, by its number from 0, and where it stands. Contracts alone see it.
 pub struct Stand {
     pub thread: u32,
     pub place: Place,
 }
 
-/// What a table of places is made for.
+/// What a table of places is made for. It is for no caller.
 #[derive(Drop)]
 pub struct Homes {
     /// In which reactor's list each thread starts, by its number.
@@ -28,7 +28,7 @@ pub struct Homes {
     pub reactors: u32,
 }
 
-/// What a seat knows. Contracts alone see it.
+/// What a seat knows. Contracts alone see it: no caller makes one.
 pub struct PlaceView {
     /// How many threads and reactors there are. Both are 0 for a seat that was joined to another.
     pub threads: u64,
@@ -50,7 +50,7 @@ pub struct PlaceView {
     pub found: Option<Stand>,
 }
 
-/// The rule that ties the words to the views.
+/// The rule that ties the words to the views. It is for no caller.
 pub struct PlaceRule;
 
 impl TableRule<(), PlaceView, Homes> for PlaceRule {
@@ -61,7 +61,7 @@ impl TableRule<(), PlaceView, Homes> for PlaceRule {
     ghost first = { first_view };
 }
 
-/// The table: the count of retired threads, the halt word, and one word a thread. It has no slots.
+/// The table: the count of retired threads, the halt word, and one word a thread. It has no slots, and is for no caller.
 pub type PlaceTable = Table<(), PlaceView, Homes, PlaceRule, Global>;
 
 /// A thread goes to another place.

@@ -21,9 +21,7 @@ pub struct ThreadSeat {
 }
 
 impl Model for ThreadSeat {
-    ghost use Rattle.lw_place.specs.PlaceWord.{IsBelow};
-    ghost use Rattle.lw_place.specs.PlaceSeats.{ThreadEnd, IsSeat, thread_view, places_of};
-    ghost use Rattle.std.specs.Prelude.{◌≡◌, ◌<◌, []};
+    ghost use Rattle.lw_place.specs.PlaceSeats.{ThreadEnd, KeepsThread, places_of};
     ghost use Rattle.std.specs.Arc.{arc_value};
 
     ghost Value = { ThreadEnd };
@@ -34,14 +32,7 @@ impl Model for ThreadSeat {
       place = s.place;
     } };
 
-    ghost invariant = { λ s.
-        (s.seat.table_id ≡ (arc_value s.table).shared.table_id)
-        × (s.seat.me.1 ≡ [])
-        × IsSeat s.seat.table_id s.seat.me.0
-        × (s.seat.me.0 ≡ thread_view s.seat.me.0.threads s.seat.me.0.reactors
-        (record { thread = s.thread; place = s.place }))
-        × (s.thread < s.seat.me.0.threads)
-        × IsBelow s.seat.me.0.reactors s.place };
+    ghost invariant = { λ s. KeepsThread (arc_value s.table).shared.table_id s.seat s.thread s.place };
 }
 
 impl ThreadSeat {

@@ -47,6 +47,7 @@ module _ (o : Outside) where
       script = a.answered.0.script;
       told_is = a.told_is;
       lawful = a.answered.1.lawful;
+      fits = a.answered.3;
       scheduler = a.answered.1.scheduler;
       reactors = a.answered.1.reactors;
       period = a.answered.1.period;
@@ -65,6 +66,7 @@ module _ (o : Outside) where
       script = a.answered.0.script;
       told_is = a.told_is;
       lawful = a.answered.1.lawful;
+      fits = a.answered.3;
       scheduler = a.answered.1.scheduler;
       reactors = a.answered.1.reactors;
       period = a.answered.1.period;

@@ -6,6 +6,7 @@ use Rattle.lw_model.specs.declared.record.Record.{Record}
 use Rattle.lw_model.specs.declared.refusal.ScriptRefusal.{ScriptRefusal}
 use Rattle.lw_model.specs.declared.refusal.ScriptRefusal.TheVariants as refusal
 use Rattle.lw_model.specs.Lawful.{Lawful}
+use Rattle.lw_model.specs.Ranges.{RecordFits}
 use Rattle.lw_model.specs.ReportText.{text_of}
 use Rattle.lw_model.specs.ScriptText.{script_of}
 use Rattle.lw_script.specs.Served.{run_refusal}
@@ -25,7 +26,7 @@ use Rattle.lw_program.specs.Commands.{IsReadWell, IsWrittenWell}
 -- ---- the command `run`
 
 -- done: the source was read to its end; `told` is a lawful record of a run of the script that its bytes are, under the options
--- of the words; and the sink has taken that record's text
+-- of the words, and its numbers fit their types; and the sink has taken that record's text
 pub record IsRunDone (options : Options) (o : Outside) (told : Option Record) : Type 0 where
   pub bytes : List ℕ
   pub the : Record
@@ -35,6 +36,7 @@ pub record IsRunDone (options : Options) (o : Outside) (told : Option Record) : 
   pub script : script_of bytes ≡ Some the.script
   pub told_is : told ≡ Some the
   pub lawful : Lawful the
+  pub fits : RecordFits the
   pub scheduler : the.scheduler ≡ options.scheduler
   pub reactors : the.reactors ≡ options.reactors
   pub period : the.period ≡ options.period
@@ -50,6 +52,7 @@ pub record IsRunCutShort (options : Options) (o : Outside) (told : Option Record
   pub script : script_of bytes ≡ Some the.script
   pub told_is : told ≡ Some the
   pub lawful : Lawful the
+  pub fits : RecordFits the
   pub scheduler : the.scheduler ≡ options.scheduler
   pub reactors : the.reactors ≡ options.reactors
   pub period : the.period ≡ options.period

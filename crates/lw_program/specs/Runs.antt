@@ -4,6 +4,7 @@ use Rattle.lw_model.specs.declared.record.Record.{Record}
 use Rattle.lw_model.specs.declared.refusal.ScriptRefusal.{ScriptRefusal}
 use Rattle.lw_model.specs.declared.refusal.ScriptRefusal.TheVariants as refusal
 use Rattle.lw_model.specs.Lawful.{Lawful}
+use Rattle.lw_model.specs.Ranges.{RecordFits}
 use Rattle.lw_model.specs.ReportText.{text_of}
 use Rattle.lw_model.specs.ScriptText.{script_of}
 use Rattle.lw_script.specs.Served.{run_refusal}
@@ -33,10 +34,10 @@ abbrev pub IsScriptFault : List ℕ → Fault → Type 0
 IsScriptFault bytes (Script e) = IsRefused bytes e
 IsScriptFault bytes _ = ⊥
 
--- `run` under options
+-- `run` under options. The text is that of the record, whose numbers fit their types.
 abbrev pub run_command : Options → CommandOf Record
 run_command options = record {
   limit = Some script_limit;
-  answers = λ bytes r text. IsRunOf bytes r × IsRunUnder options r × (text ≡ text_of r);
+  answers = λ bytes r text. IsRunOf bytes r × IsRunUnder options r × (text ≡ text_of r) × RecordFits r;
   refuses = IsScriptFault;
 }

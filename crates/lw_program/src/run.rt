@@ -1,5 +1,6 @@
 //! The command `run`: a script is read, run and reported.
 ghost use Rattle.std.specs.Prelude.{◌≡◌, IfOk, IfErr};
+ghost use Rattle.lw_model.specs.Ranges.{RecordFits};
 ghost use Rattle.lw_model.specs.ReportText.{text_of};
 ghost use Rattle.lw_target.specs.Options.{AreServed};
 ghost use Rattle.lw_program.specs.Commands.{Explains};
@@ -60,7 +61,7 @@ impl Command for RunCommand {
 // The record of a script's bytes, with its text.
 fn report_of(alloc: Global, bytes: &[u8], options: Options) -> Result<Told<Record>, Fault>
     requires { AreServed options }
-    ensures told { IfOk result (λ told. IsRunOf bytes.now told.value × IsRunUnder options told.value × (told.text.items ≡ text_of told.value)) }
+    ensures told { IfOk result (λ told. IsRunOf bytes.now told.value × IsRunUnder options told.value × (told.text.items ≡ text_of told.value) × RecordFits told.value) }
     ensures fault { IfErr result (Explains (run_command options) bytes.now) }
 {
     match record_of(alloc, bytes, options) {

@@ -31,11 +31,11 @@ use Rattle.lw_model.specs.declared.record.SeenBy.TheVariants as by
 use Rattle.lw_base.specs.declared.ends.DeviceEnd.{DeviceEnd}
 use Rattle.lw_model.specs.ScriptRules.{is_within, is_name, is_name_byte}
 use Rattle.lw_model.specs.ReportText.{line, count_of, scheduler_word, image_line, op_words, op_line, client_line, client_lines, hop_line, what_words, ran_line, answer_words, did_line, called_line, replied_words, reply_line, mark_word, result_words, seen_line, role_word, thread_line, thread_lines, device_line, text_of_lines}
+use Rattle.lw_model.specs.Ranges.{u64_max, Fits32, Fits64, WhatFits, TagFits, HopFits, AnswerFits, DidFits, CalledFits, RepliedFits, ReplyFits, MarkFits, SeenByFits, SeenFits, DeviceFits, OpFits, ImageFits, ThreadFits, ClientFits, ScriptFits}
 use Rattle.lw_report.specs.declared.contents.Contents.{Contents}
-use Rattle.lw_report_lines.specs.LineParts.{is_digit, ends_word, u64_max}
+use Rattle.lw_report_lines.specs.LineParts.{is_digit, ends_word}
 use Rattle.lw_base.specs.TextLines.{is_feed, put_on, pieces}
-use Rattle.lw_report_lines.specs.Ranges.{Fits32, Fits64, WhatFits, TagFits, HopFits, AnswerFits, DidFits, CalledFits, RepliedFits, ReplyFits, MarkFits, SeenByFits, SeenFits, DeviceFits, OpFits, ImageFits}
-use Rattle.lw_report.specs.Ranges.{ThreadFits, ClientFits, ScriptFits, InRange}
+use Rattle.lw_report.specs.Ranges.{InRange}
 use Rattle.lw_model.proofs.Growth.{all-append}
 use Rattle.lw_model.proofs.JoinedWords.{join-cons}
 use Rattle.lw_report_lines.proofs.PartTexts.{numerals}

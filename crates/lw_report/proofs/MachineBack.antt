@@ -16,11 +16,10 @@ use Rattle.lw_model.specs.declared.record.Seen.{Seen}
 use Rattle.lw_model.specs.ScriptRules.{is_name, is_pattern, is_within}
 use Rattle.lw_model.specs.Printable.{has_a_line, has_bytes, has_results, has_role, is_empty, is_clients_alone, may_reply, is_printable_thread}
 use Rattle.lw_model.specs.ReportText.{line, count_of, image_line, op_line, client_lines as lines_of_client, hop_line, ran_line, did_line, called_line, reply_line, seen_line, role_word, thread_line, thread_lines as lines_of_thread, device_line}
+use Rattle.lw_model.specs.Ranges.{Fits32, Fits64, HopFits, TagFits, DidFits, CalledFits, ReplyFits, SeenFits, OpFits, ThreadFits, ClientFits}
 use Rattle.lw_report_lines.specs.LineKinds.{hop_in, ran_in, did_in, called_in, reply_in, seen_in, thread_in, client_in, op_in}
 use Rattle.lw_report.specs.Machine.{State, ◌>>=◌, taken, one, many, many_from, numbered}
 use Rattle.lw_report.specs.Report.{client_at, client_lines, role_at, thread_lines, thread_at}
-use Rattle.lw_report_lines.specs.Ranges.{Fits32, Fits64, HopFits, TagFits, DidFits, CalledFits, ReplyFits, SeenFits, OpFits}
-use Rattle.lw_report.specs.Ranges.{ThreadFits, ClientFits}
 use Rattle.lw_report_lines.proofs.Said.{some_is}
 use Rattle.lw_report.proofs.Reading.{state}
 use Rattle.lw_report.proofs.ReportTexts.{fed, one_by_one}

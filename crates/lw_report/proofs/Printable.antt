@@ -19,7 +19,8 @@ use Rattle.lw_model.specs.declared.record.SeenBy.{SeenBy}
 use Rattle.lw_model.specs.declared.record.SeenBy.TheVariants as by
 use Rattle.lw_model.specs.ScriptRules.{rule_broken, is_within}
 use Rattle.lw_model.specs.Printable.{has_a_line, has_bytes, has_results, has_role, may_reply, is_printable_thread, is_printable}
-use Rattle.lw_report_lines.specs.LineParts.{after, spaced, u32_max, u64_max}
+use Rattle.lw_model.specs.Ranges.{u32_max, u64_max}
+use Rattle.lw_report_lines.specs.LineParts.{after, spaced}
 use Rattle.lw_report_lines.specs.LineKinds.{last32, last64, ended, visit_in, cast_in, what_in, ran_in, called_in, bytes_in, last_digits, decoded, replied_in, reply_in, results, mark, is_space, hop_in, did_in, image_in, thread_in, device_in, results_in, seen_in}
 use Rattle.lw_report.specs.declared.contents.Contents.{Contents}
 use Rattle.lw_report_lines.specs.declared.single.FixedLine.TheVariants.{Title, StaticScheduler, End}

@@ -9,12 +9,12 @@ use Rattle.lw_base.specs.declared.moves.Round.{Round}
 use Rattle.lw_model.specs.Printable.{is_printable}
 use Rattle.lw_model.specs.ScriptRules.{is_within}
 use Rattle.lw_model.specs.ReportText.{text_of_lines, text_of}
+use Rattle.lw_model.specs.Ranges.{Fits64}
 use Rattle.lw_report.specs.declared.contents.Contents.{Contents}
 use Rattle.lw_base.specs.TextLines.{pieces}
 use Rattle.lw_report.specs.Machine.{State, ◌>>=◌}
 use Rattle.lw_report.specs.Report.{report_at, reading}
 use Rattle.lw_report.specs.Parsed.{contents_of, IsStatic}
-use Rattle.lw_report_lines.specs.Ranges.{Fits64}
 use Rattle.lw_report.specs.Ranges.{InRange}
 use Rattle.lw_report.proofs.Reading.{state}
 use Rattle.lw_report.proofs.Accepted.{images_named, clients_named}

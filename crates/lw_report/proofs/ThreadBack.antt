@@ -10,11 +10,10 @@ use Rattle.lw_model.specs.declared.record.Called.{Called}
 use Rattle.lw_base.specs.declared.ends.DeviceEnd.{DeviceEnd}
 use Rattle.lw_model.specs.Printable.{has_a_line, has_role, may_reply, is_printable_thread}
 use Rattle.lw_model.specs.ReportText.{line, hop_line, ran_line, did_line, called_line, reply_line, seen_line, role_word, thread_line, thread_lines as lines_of_thread, device_line}
+use Rattle.lw_model.specs.Ranges.{Fits64, HopFits, TagFits, DidFits, CalledFits, ThreadFits}
 use Rattle.lw_report_lines.specs.LineKinds.{hop_in, ran_in, did_in, called_in, reply_in, seen_in, thread_in}
 use Rattle.lw_report.specs.Machine.{State, ◌>>=◌, one, many}
 use Rattle.lw_report.specs.Report.{client_lines, role_at, thread_lines, thread_at}
-use Rattle.lw_report_lines.specs.Ranges.{Fits64, HopFits, TagFits, DidFits, CalledFits}
-use Rattle.lw_report.specs.Ranges.{ThreadFits}
 use Rattle.lw_report.proofs.Reading.{state}
 use Rattle.lw_report.proofs.ReportTexts.{fed}
 use Rattle.lw_report.proofs.Chains.{thread_of_lines}

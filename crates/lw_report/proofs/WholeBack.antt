@@ -13,24 +13,24 @@ use Rattle.lw_base.specs.declared.ends.Home.{Home}
 use Rattle.lw_model.specs.ScriptRules.{is_name, is_pattern, is_within, rule_broken}
 use Rattle.lw_model.specs.Printable.{is_printable_thread, is_printable}
 use Rattle.lw_model.specs.ReportText.{line, count_of, image_line, client_lines, thread_lines, device_line}
+use Rattle.lw_model.specs.Ranges.{u64_max, Fits32, Fits64, ImageFits, DeviceFits, ClientFits, ScriptFits, ThreadFits}
+use Rattle.lw_model.proofs.Rules.{none_is}
 use Rattle.lw_report.specs.declared.contents.Contents.{Contents}
 use Rattle.lw_report_lines.specs.declared.single.FixedLine.{FixedLine}
 use Rattle.lw_report_lines.specs.declared.single.FixedLine.TheVariants.{Title, StaticScheduler, End}
 use Rattle.lw_report_lines.specs.declared.single.NumberLine.{NumberLine}
 use Rattle.lw_report_lines.specs.declared.single.NumberLine.TheVariants.{Period, Images, Clients}
 use Rattle.lw_report_lines.specs.declared.single.PairLine.TheVariants.{Pool, Left}
-use Rattle.lw_report_lines.specs.LineParts.{u64_max}
 use Rattle.lw_report_lines.specs.LineKinds.{image_in, device_in}
 use Rattle.lw_report_lines.specs.Once.{fixed_text, fixed_in, number_word, number_least, number_most, number_of_in, pair_of_in, reactors_in}
 use Rattle.lw_base.specs.TextLines.{is_nil}
 use Rattle.lw_report.specs.Machine.{State, ◌>>=◌, one, numbered}
 use Rattle.lw_report.specs.Report.{list_at, client_at, accepted, script_at, thread_at, threads_at, devices_at, finished, rest_at, report_at}
-use Rattle.lw_report_lines.specs.Ranges.{Fits32, Fits64, ImageFits, DeviceFits}
-use Rattle.lw_report.specs.Ranges.{ClientFits, ScriptFits, ThreadFits, InRange}
+use Rattle.lw_report.specs.Ranges.{InRange}
 use Rattle.lw_report.proofs.Reading.{state}
 use Rattle.lw_report.proofs.Accepted.{images_named, clients_named, patterns_fit}
 use Rattle.lw_report.proofs.ReportTexts.{fed, one_by_one, one_by_number, by_item}
-use Rattle.lw_report.proofs.WholeTexts.{images_lines, clients_lines, pool_line, threads_lines, devices_lines, last_lines, rest_lines, front, script_front, together, lines_from, none_is}
+use Rattle.lw_report.proofs.WholeTexts.{images_lines, clients_lines, pool_line, threads_lines, devices_lines, last_lines, rest_lines, front, script_front, together, lines_from}
 use Rattle.lw_report_lines.proofs.LinesBack.{counted_back, pair_back, device_back}
 use Rattle.lw_report_lines.proofs.ScriptBack.{image_back}
 use Rattle.lw_report.proofs.MachineBack.{fed_both, one_back, AllNumbered, Back, numbered_back, Any, client_read, NextThread}

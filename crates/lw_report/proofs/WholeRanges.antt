@@ -1,15 +1,15 @@
 -- What was read is in range: each number fits its type, and so do the counts.
-use Rattle.std.proofs.Common.{◌≡◌, ℕ, zero, suc, ◌+◌, nat_le, true, List, [], ◌∷◌, codes, length, Option, Some, None, is_none, Result, Ok, Err, refl, sym, ap, subst, arith}
+use Rattle.std.proofs.Common.{◌≡◌, ℕ, zero, suc, ◌+◌, true, List, [], ◌∷◌, codes, length, Option, Some, None, is_none, Result, Ok, Err, refl, sym, ap, subst, arith}
 use Rattle.std.specs.List.{AllByRecursion}
-use Rattle.std.proofs.lemmas.Bool.{and_parts, leb-true}
 use Rattle.lw_model.specs.declared.script.Script.{Script}
 use Rattle.lw_model.specs.declared.script.ClientOf.{ClientOf}
-use Rattle.lw_model.specs.declared.refusal.ScriptRefusal.TheVariants.{Limit}
+use Rattle.lw_model.specs.declared.record.Record.{Record}
 use Rattle.lw_model.specs.declared.record.ThreadRecord.{ThreadRecord}
 use Rattle.lw_model.specs.declared.record.RoleKind.{RoleKind}
 use Rattle.lw_model.specs.declared.record.RoleKind.TheVariants.{App, Client, Owner}
-use Rattle.lw_model.specs.ScriptRules.{rule_answers, rule_broken, has_client_count}
-use Rattle.lw_model.proofs.Rules.{kept, image_count-kept}
+use Rattle.lw_model.specs.ScriptRules.{rule_broken}
+use Rattle.lw_model.specs.Ranges.{Fits32, Fits64, ReplyFits, SeenFits, OpFits, ImageFits, DeviceFits, HopFits, TagFits, DidFits, CalledFits, ClientFits, ScriptFits, ThreadFits, RecordFits}
+use Rattle.lw_model.proofs.Rules.{none_is, counts_fit}
 use Rattle.lw_report.specs.declared.contents.Contents.{Contents}
 use Rattle.lw_report_lines.specs.declared.single.FixedLine.TheVariants.{Title, StaticScheduler, End}
 use Rattle.lw_report_lines.specs.declared.single.NumberLine.TheVariants.{Period, Images, Clients}
@@ -19,10 +19,9 @@ use Rattle.lw_report_lines.specs.Once.{fixed_in, number_of_in, pair_of_in, react
 use Rattle.lw_base.specs.TextLines.{pieces, is_nil}
 use Rattle.lw_report.specs.Machine.{State, ◌>>=◌, one, many, many_from, numbered}
 use Rattle.lw_report.specs.Report.{list_at, client_at, script_at, client_lines, role_at, thread_lines, thread_at, threads_at, devices_at, report_at, reading}
-use Rattle.lw_report_lines.specs.Ranges.{Fits32, Fits64, ReplyFits, SeenFits, OpFits, ImageFits, DeviceFits, HopFits, TagFits, DidFits, CalledFits}
-use Rattle.lw_report.specs.Ranges.{ClientFits, ScriptFits, ThreadFits, InRange}
+use Rattle.lw_report.specs.Parsed.{contents_of}
+use Rattle.lw_report.specs.Ranges.{InRange}
 use Rattle.lw_report.proofs.Said.{read_parts, if_ok, one_said, numbered_all}
-use Rattle.lw_report.proofs.WholeTexts.{none_is}
 use Rattle.lw_report_lines.proofs.LineRanges.{hop_fits, ran_fits, did_fits, called_fits, reply_fits, seen_fits, home_fits, device_fits, pair_fits, image_fits, client_fits, op_fits}
 
 -- what holds of each line of a kind holds of all that are read
@@ -63,14 +62,6 @@ client_said s t c e =
     let ops = numbered_fit (λ n. one op_in) OpFits (λ n s t o h. one_each op_in OpFits op_fits s t o h) a.0.0.ops 0 a.0.1 b.0.1 b.0.0 b.1 in
     let count = numbered_length (λ n. one op_in) a.0.0.ops 0 a.0.1 b.0.1 b.0.0 b.1 in
     subst ClientFits (ap (λ (r : Result (ClientOf × State) ℕ). elim r [ Ok q ↦ q.0 | Err m ↦ c ]) b.2) (head.0, ops, subst Fits64 (sym count) head.1)
-
-counts_fit : (script : Script) → rule_broken script ≡ None → Fits64 (1 + length script.clients + length script.images)
-counts_fit script e =
-    let images = and_parts (nat_le 1 (length script.images)) (nat_le (length script.images) 16) (image_count-kept script e) in
-    let clients = and_parts (nat_le 1 (length script.clients)) (nat_le (length script.clients) 64) (kept (rule_answers script) 3 (has_client_count script) (Limit 4) e refl) in
-    let few = leb-true (length script.images) 16 images.1 in
-    let some = leb-true (length script.clients) 64 clients.1 in
-    omega arith
 
 script_said : (s t : State) (script : Script) → script_at s ≡ Ok (script, t) → ScriptFits script
 unfolding script_at
@@ -152,3 +143,7 @@ read_in_range bytes c e =
     let start : State = record { line = 1; lines = pieces bytes } in
     let a = read_parts (report_at start) (λ p. Ok p.0) c e in
     subst InRange (ap (λ (q : Result Contents ℕ). elim q [ Ok x ↦ x | Err n ↦ c ]) a.2) (report_said start a.0.1 a.0.0 a.1)
+
+-- so is what a record says whose numbers fit
+pub record_in_range : (r : Record) → RecordFits r → InRange (contents_of r)
+record_in_range r fits = record { script = fits.script; threads = fits.threads; devices = fits.devices; small = fits.home.0; large = fits.home.1 }

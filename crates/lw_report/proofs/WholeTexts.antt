@@ -14,6 +14,7 @@ use Rattle.lw_model.specs.declared.record.Span.{Span}
 use Rattle.lw_base.specs.declared.moves.Round.{Round}
 use Rattle.lw_model.specs.ScriptRules.{is_name, is_pattern, rule_broken}
 use Rattle.lw_model.specs.ReportText.{line, count_of, scheduler_word, image_line, client_lines, thread_lines, device_line, clock_lines, round_lines, text_of_lines, lines_of, text_of}
+use Rattle.lw_model.proofs.Rules.{none_is}
 use Rattle.lw_report.specs.declared.contents.Contents.{Contents}
 use Rattle.lw_report_lines.specs.declared.single.FixedLine.{FixedLine}
 use Rattle.lw_report_lines.specs.declared.single.FixedLine.TheVariants.{Title, StaticScheduler, End}
@@ -71,10 +72,6 @@ all_and p q (x ∷ xs) a b =
     let h = and_parts (p x) (list_all p xs) a in
     let k = and_parts (q x) (list_all q xs) b in
     and_from (p x && q x) (list_all (λ y. p y && q y) xs) (and_from (p x) (q x) h.0 k.0) (all_and p q xs h.1 k.1)
-
-pub none_is : {X : Type 0} (o : Option X) → is_none o ≡ true → o ≡ None
-none_is None e = refl
-none_is (Some x) e = let wrong : false ≡ true = e in cc
 
 script_took : (s t : State) (script : Script) → script_at s ≡ Ok (script, t) → Took s ((pool_line script ∷ []) ++ images_lines script ++ clients_lines script) t
 unfolding script_at

@@ -27,10 +27,10 @@ use Rattle.lw_base.specs.declared.ends.DeviceEnd.{DeviceEnd}
 use Rattle.lw_base.specs.declared.ends.Home.{Home}
 use Rattle.lw_model.specs.ScriptShape.{pattern_of}
 use Rattle.lw_model.specs.ReportText.{role_word}
+use Rattle.lw_model.specs.Ranges.{u32_max, u64_max, Fits32, Fits64, WhatFits, TagFits, HopFits, AnswerFits, DidFits, CalledFits, RepliedFits, ReplyFits, MarkFits, SeenByFits, SeenFits, DeviceFits, OpFits, ImageFits}
 use Rattle.lw_report_lines.specs.declared.script_lines.ClientHead.{ClientHead}
-use Rattle.lw_report_lines.specs.LineParts.{after, number, spaced, word, is_end, u32_max, u64_max}
+use Rattle.lw_report_lines.specs.LineParts.{after, number, spaced, word, is_end}
 use Rattle.lw_report_lines.specs.LineKinds.{last32, last64, ended, hop_in, visit_in, cast_in, what_in, ran_in, answer_in, did_in, called_in, last_digits, decoded, bytes_in, replied_in, reply_in, mark, results, is_space, results_in, seen_in, thread_in, device_in, pair_in, name_of, image_in, client_in, write_in, read_in, plain_form_in, op_in}
-use Rattle.lw_report_lines.specs.Ranges.{Fits32, Fits64, WhatFits, TagFits, HopFits, AnswerFits, DidFits, CalledFits, RepliedFits, ReplyFits, MarkFits, SeenByFits, SeenFits, DeviceFits, OpFits, ImageFits}
 use Rattle.lw_report_lines.proofs.Said.{some_parts, map_parts, if_some, chosen, some_is}
 use Rattle.lw_report_lines.proofs.PartTexts.{number_most}
 

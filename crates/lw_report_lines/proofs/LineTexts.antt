@@ -18,7 +18,8 @@ use Rattle.lw_base.specs.declared.ends.DeviceEnd.{DeviceEnd}
 use Rattle.lw_base.specs.declared.ends.Home.{Home}
 use Rattle.lw_model.specs.ScriptRules.{is_within}
 use Rattle.lw_model.specs.ReportText.{line, hop_line, what_words, ran_line, answer_words, did_line, called_line, mark_word, result_words, seen_line, role_word, device_line}
-use Rattle.lw_report_lines.specs.LineParts.{after, number, spaced, is_end, u32_max, u64_max}
+use Rattle.lw_model.specs.Ranges.{u32_max, u64_max}
+use Rattle.lw_report_lines.specs.LineParts.{after, number, spaced, is_end}
 use Rattle.lw_report_lines.specs.LineKinds.{choose, ended, last32, last64, hop_in, visit_in, cast_in, what_in, ran_in, answer_in, did_in, called_in, mark, results, is_space, results_in, seen_in, thread_in, device_in, text_in, number_in, pair_in}
 use Rattle.lw_report_lines.proofs.Said.{some_parts, map_parts, if_some, some_is}
 use Rattle.lw_report_lines.proofs.PartTexts.{after_text, number_text, Tail, tail_end, tail_word, spaced_text, whole_line}

@@ -18,9 +18,9 @@ use Rattle.lw_base.specs.declared.ends.Home.{Home}
 use Rattle.lw_model.specs.ScriptRules.{is_within}
 use Rattle.lw_model.specs.Printable.{has_a_line}
 use Rattle.lw_model.specs.ReportText.{line, hop_line, what_words, ran_line, answer_words, did_line, called_line, role_word, device_line}
-use Rattle.lw_report_lines.specs.LineParts.{after, number, spaced, is_end, u32_max, u64_max}
+use Rattle.lw_model.specs.Ranges.{u32_max, u64_max, WhatFits, TagFits, HopFits, AnswerFits, DidFits, CalledFits, DeviceFits, Fits32, Fits64}
+use Rattle.lw_report_lines.specs.LineParts.{after, number, spaced, is_end}
 use Rattle.lw_report_lines.specs.LineKinds.{choose, ended, last32, last64, hop_in, visit_in, cast_in, what_in, ran_in, answer_in, did_in, called_in, thread_in, device_in, text_in, number_in, pair_in}
-use Rattle.lw_report_lines.specs.Ranges.{WhatFits, TagFits, HopFits, AnswerFits, DidFits, CalledFits, DeviceFits, Fits32, Fits64}
 use Rattle.lw_report_lines.proofs.PartsBack.{after_back, tail_of, tail_cons, back32, back64, last32_back, last64_back}
 use Rattle.lw_model.proofs.JoinedWords.{join-cons}
 

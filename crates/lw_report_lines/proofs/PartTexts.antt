@@ -7,8 +7,9 @@ use Rattle.std.proofs.lemmas.Bool.{and_parts, and_from, leb-true, le-leb, ltb-tr
 use Rattle.std.proofs.lemmas.Fmt.{decimal-digits_value}
 use Rattle.std.proofs.lemmas.Str.Parse.{IsNumeralModel, IsDigitsTest, FoldsDigits, numerals_by_fold}
 use Rattle.lw_model.specs.ReportText.{line}
+use Rattle.lw_model.specs.Ranges.{u64_max}
 use Rattle.lw_base.specs.TextLines.{value_from}
-use Rattle.lw_report_lines.specs.LineParts.{after, is_digit, is_no_digit, place_of_first, digit_count, word_length, is_plain, number, spaced, word, is_end, u64_max}
+use Rattle.lw_report_lines.specs.LineParts.{after, is_digit, is_no_digit, place_of_first, digit_count, word_length, is_plain, number, spaced, word, is_end}
 use Rattle.lw_report_lines.proofs.Said.{some_parts, if_some}
 use Rattle.lw_model.proofs.JoinedWords.{join-cons}
 

@@ -6,7 +6,8 @@ use lib.Pointwise.{bytes_decides}
 use Rattle.std.proofs.lemmas.Bool.{and_parts, and_from, leb-true, le-leb, lt-ltb, eq-eqb, ne_eqb, cases_eq, true≢false}
 use Rattle.std.proofs.lemmas.Fmt.{digits_decimal, digits_value-decimal, first_decimal, decimal_nonempty}
 use Rattle.lw_base.specs.TextLines.{value_from}
-use Rattle.lw_report_lines.specs.LineParts.{after, is_digit, is_no_digit, ends_word, digit_count, word_length, place_of_first, is_plain, number, spaced, word, is_end, u32_max, u64_max}
+use Rattle.lw_model.specs.Ranges.{u32_max, u64_max}
+use Rattle.lw_report_lines.specs.LineParts.{after, is_digit, is_no_digit, ends_word, digit_count, word_length, place_of_first, is_plain, number, spaced, word, is_end}
 use Rattle.lw_report_lines.specs.LineKinds.{ended, last32, last64}
 use Rattle.lw_report_lines.proofs.PartTexts.{AreDigits, numerals, place_is}
 

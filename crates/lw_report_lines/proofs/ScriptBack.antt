@@ -25,11 +25,11 @@ use Rattle.lw_model.specs.ScriptRules.{is_within, is_name, is_name_byte, is_patt
 use Rattle.lw_model.specs.ScriptShape.{pattern_of}
 use Rattle.lw_model.specs.Printable.{has_bytes, has_results}
 use Rattle.lw_model.specs.ReportText.{line, image_line, op_words, op_line, replied_words, reply_line, mark_word, result_words, seen_line}
+use Rattle.lw_model.specs.Ranges.{u32_max, u64_max, Fits32, Fits64, RepliedFits, ReplyFits, MarkFits, SeenByFits, SeenFits, OpFits, ImageFits}
 use Rattle.lw_model.proofs.Passing.{all_in_range}
 use Rattle.lw_report_lines.specs.declared.script_lines.ClientHead.{ClientHead}
-use Rattle.lw_report_lines.specs.LineParts.{after, number, spaced, word, is_end, is_digit, ends_word, u32_max, u64_max}
+use Rattle.lw_report_lines.specs.LineParts.{after, number, spaced, word, is_end, is_digit, ends_word}
 use Rattle.lw_report_lines.specs.LineKinds.{last32, last64, ended, is_no_capital, last_digits, decoded, bytes_in, replied_in, reply_in, mark, results, is_space, results_in, seen_in, name_of, image_in, client_in, write_in, read_in, plain_form_in, form_in, op_in}
-use Rattle.lw_report_lines.specs.Ranges.{Fits32, Fits64, RepliedFits, ReplyFits, MarkFits, SeenByFits, SeenFits, OpFits, ImageFits}
 use Rattle.lw_report_lines.proofs.PartTexts.{AreDigits, numerals}
 use Rattle.lw_report_lines.proofs.PartsBack.{after_back, number_back, NoDigit, tail_of, tail_cons, tail_no_digit, back32, back64, last32_back, last64_back, word_back, are_all}
 use Rattle.lw_report_lines.proofs.LinesBack.{line_tail}

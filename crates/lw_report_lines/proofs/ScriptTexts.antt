@@ -14,8 +14,9 @@ use Rattle.lw_model.specs.declared.record.Replied.TheVariants as replied
 use Rattle.lw_model.specs.ScriptShape.{pattern_of}
 use Rattle.lw_model.specs.ScriptRules.{is_within, is_pattern}
 use Rattle.lw_model.specs.ReportText.{line, image_line, op_words, op_line, replied_words, reply_line}
+use Rattle.lw_model.specs.Ranges.{u32_max, u64_max}
 use Rattle.lw_report_lines.specs.declared.script_lines.ClientHead.{ClientHead}
-use Rattle.lw_report_lines.specs.LineParts.{after, spaced, word, is_end, u32_max, u64_max}
+use Rattle.lw_report_lines.specs.LineParts.{after, spaced, word, is_end}
 use Rattle.lw_report_lines.specs.LineKinds.{last64, is_no_capital, last_digits, decoded, bytes_in, replied_in, reply_in, name_of, image_in, client_in, write_in, read_in, plain_form_in, op_in}
 use Rattle.lw_report_lines.proofs.Said.{some_parts, map_parts, if_some, some_is}
 use Rattle.lw_report_lines.proofs.PartTexts.{after_text, Tail, tail_end, tail_word, word_text, whole_line}

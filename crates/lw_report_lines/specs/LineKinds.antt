@@ -26,10 +26,11 @@ use Rattle.lw_model.specs.declared.record.Did.{Did}
 use Rattle.lw_model.specs.declared.record.Answer.{Answer}
 use Rattle.lw_model.specs.declared.record.Answer.TheVariants as answer
 use Rattle.lw_model.specs.declared.record.Called.{Called}
+use Rattle.lw_model.specs.Ranges.{u32_max, u64_max}
 use Rattle.lw_base.specs.declared.ends.DeviceEnd.{DeviceEnd}
 use Rattle.lw_base.specs.declared.ends.Home.{Home}
 use Rattle.lw_report_lines.specs.declared.script_lines.ClientHead.{ClientHead}
-use Rattle.lw_report_lines.specs.LineParts.{after, number, spaced, word, is_end, u32_max, u64_max}
+use Rattle.lw_report_lines.specs.LineParts.{after, number, spaced, word, is_end}
 
 -- ---- the parts of lines
 

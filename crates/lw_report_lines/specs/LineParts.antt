@@ -3,12 +3,6 @@ use Rattle.std.specs.Prelude.{ℕ, ◌+◌, ◌-◌, ◌*◌, Bool, ◌&&◌, �
 use Rattle.lw_model.specs.ScriptRules.{is_within}
 use Rattle.lw_base.specs.TextLines.{value_from}
 
-abbrev pub u32_max : ℕ
-u32_max = 4294967295
-
-abbrev pub u64_max : ℕ
-u64_max = 18446744073709551615
-
 -- the bytes behind a text, where they begin with it
 abbrev pub after : List ℕ → List ℕ → Option (List ℕ)
 after text bs = if bytes_eq (take (length text) bs) text then Some (drop (length text) bs) else None

@@ -7,7 +7,7 @@ use Rattle.lw_report_lines.specs.declared.single.NumberLine.{NumberLine}
 use Rattle.lw_report_lines.specs.declared.single.NumberLine.TheVariants.{Period, Images, Clients}
 use Rattle.lw_report_lines.specs.declared.single.PairLine.{PairLine}
 use Rattle.lw_report_lines.specs.declared.single.PairLine.TheVariants.{Pool, Left}
-use Rattle.lw_report_lines.specs.LineParts.{u64_max}
+use Rattle.lw_model.specs.Ranges.{u64_max}
 use Rattle.lw_report_lines.specs.LineKinds.{text_in, number_in, pair_in}
 
 abbrev pub fixed_text : FixedLine → List ℕ

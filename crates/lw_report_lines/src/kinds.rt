@@ -2,7 +2,8 @@
 ghost use Rattle.std.specs.Prelude.{◌≡◌, ℕ, List, IfOk, MatchOption, Some, None, option_map, filter, length};
 ghost use Rattle.std.specs.List.{list_all};
 ghost use Rattle.lw_report_lines.specs.LineKinds.{ended, last32, last64, hop_in, visit_in, cast_in, what_in, ran_in, answer_in, did_in, called_in, is_no_capital, last_digits, decoded, bytes_in, replied_in, reply_in, mark, results, is_space, results_in, seen_in};
-ghost use Rattle.lw_report_lines.specs.LineParts.{spaced, u32_max};
+ghost use Rattle.lw_model.specs.Ranges.{u32_max};
+ghost use Rattle.lw_report_lines.specs.LineParts.{spaced};
 
 use crate::parts::{after, is_end, number, number32, number64, word};
 use hex::FromHexError;

@@ -1,7 +1,8 @@
 //! The parts of a line, read from its front. A line here ends with its line feed.
 ghost use Rattle.std.specs.Prelude.{◌≡◌, ℕ, ◌≤◌, ◌^◌, [], ◌∷◌, length, min, position, take, drop, Some, None, IfSome, IfNone, MatchOption};
 ghost use Rattle.lw_base.specs.TextLines.{value_from};
-ghost use Rattle.lw_report_lines.specs.LineParts.{after, number, spaced, word, is_end, is_plain, is_digit, is_no_digit, digit_count, ends_word, word_length, u32_max, u64_max};
+ghost use Rattle.lw_model.specs.Ranges.{u32_max, u64_max};
+ghost use Rattle.lw_report_lines.specs.LineParts.{after, number, spaced, word, is_end, is_plain, is_digit, is_no_digit, digit_count, ends_word, word_length};
 
 /// The bytes behind a text, where they begin with it.
 pub fn after<'a>(bytes: &'a [u8], text: &str) -> Option<&'a [u8]>

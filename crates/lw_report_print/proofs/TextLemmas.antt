@@ -1,10 +1,11 @@
--- The text of lines that a list gives, and of lines in a row.
-use Rattle.std.proofs.Common.{◌≡◌, ℕ, List, [], ◌∷◌, ◌++◌, map, flat_map, take, length, slice_index_or, ◌+◌, ◌<◌, arith, add-zero, length-take-le, sym, ap, refl, ◌∙◌, append_assoc, append-nil}
+-- The text of lines that a list gives, and of lines in a row; what holds of each item of a list.
+use Rattle.std.proofs.Common.{◌≡◌, ℕ, List, [], ◌∷◌, ◌++◌, map, flat_map, take, length, slice_index_or, ◌+◌, ◌<◌, ◌≤◌, arith, add-zero, length-take-le, sym, ap, refl, subst, ◌∙◌, append_assoc, append-nil}
 use Rattle.std.proofs.lemmas.List.Folds.{flat_map-map}
 use Rattle.std.proofs.lemmas.Grind.{flat_map-append}
-use Rattle.std.specs.List.{enumerate_from}
-use Rattle.std.proofs.lemmas.List.{take_more}
+use Rattle.std.specs.List.{AllByRecursion, enumerate_from}
+use Rattle.std.proofs.lemmas.List.{take_all, take_more}
 use Rattle.lw_model.specs.ReportText.{text_of_lines}
+use Rattle.lw_model.proofs.Growth.{all-append}
 
 pub text_of_lines-map : {X : Type 0} (f : X → List ℕ) (xs : List X) → text_of_lines (map f xs) ≡ flat_map (λ x. f x ++ 10 ∷ []) xs
 text_of_lines-map f xs = flat_map-map (λ l. l ++ 10 ∷ []) f xs
@@ -45,6 +46,23 @@ numbered-more {X} f xs i d below =
     ∙ flat_map-append f (enumerate_from 0 (take i xs)) ((0 + length (take i xs), x) ∷ [])
     ∙ ap (λ t. flat_map f (enumerate_from 0 (take i xs)) ++ t) (append-nil (f (0 + length (take i xs), x)))
     ∙ ap (λ k. flat_map f (enumerate_from 0 (take i xs)) ++ f (k, x)) (omega (arith, length-take-le i xs))
+
+-- ---- the items so far
+
+-- the texts of one item more
+pub texts_more : {X : Type 0} (f : X → List ℕ) (xs : List X) (i : ℕ) (d : X) → i < length xs → flat_map f (take (i + 1) xs) ≡ flat_map f (take i xs) ++ f (slice_index_or xs i d)
+texts_more f xs i d below =
+    ap (flat_map f) (take_more xs i d below)
+    ∙ flat_map-append f (take i xs) (slice_index_or xs i d ∷ [])
+    ∙ ap (λ t. flat_map f (take i xs) ++ t) (append-nil (f (slice_index_or xs i d)))
+
+-- what holds of each holds of one item more
+pub all_more : {X : Type 0} (P : X → Type 0) (xs : List X) (i : ℕ) (d : X) → i < length xs → AllByRecursion P (take i xs) → P (slice_index_or xs i d) → AllByRecursion P (take (i + 1) xs)
+all_more P xs i d below all here = subst (AllByRecursion P) (sym (take_more xs i d below)) (all-append P (take i xs) (slice_index_or xs i d ∷ []) all (here, tt))
+
+-- at the end it holds of all
+pub all_taken : {X : Type 0} (P : X → Type 0) (xs : List X) (i : ℕ) → length xs ≤ i → AllByRecursion P (take i xs) → AllByRecursion P xs
+all_taken P xs i past all = subst (AllByRecursion P) (take_all i xs past) all
 
 -- ---- lines behind lines
 

@@ -1,5 +1,7 @@
 //! The lines of a record that stand alone, one kind an impl.
-ghost use Rattle.std.specs.Prelude.{◌≡◌, ◌++◌, ◌∷◌, [], codes, decimal, string_bytes, flat_map, OnOk};
+ghost use Rattle.std.specs.Prelude.{◌≡◌, ◌++◌, ◌∷◌, [], codes, decimal, length, string_bytes, flat_map, IfOk, OnOk};
+ghost use Rattle.hex.specs.Hex.{IsBytes, encode_lower};
+ghost use Rattle.lw_model.specs.Ranges.{Fits32, Fits64, SeenByFits};
 ghost use Rattle.lw_model.specs.ReportText.{client_line, result_words, round_line};
 
 use crate::printed::{Printed, push_all};
@@ -12,63 +14,87 @@ use std::alloc::{AllocError, Global};
 
 impl Printed for Row {
     ghost use Rattle.lw_model.specs.ReportText.{row_line};
+    ghost use Rattle.lw_model.specs.Ranges.{RowFits};
 
     ghost text = { λ r. row_line r ++ 10 ∷ [] };
 
+    ghost fits = { RowFits };
+
     fn push_to(&self, _alloc: Global, out: &mut String) -> Result<(), AllocError> {
-        writeln!(
-            out,
-            "row {} {} {} {}",
-            self.thread, self.reactor, self.busy, self.idle
-        )
+        let Row {
+            thread,
+            reactor,
+            busy,
+            idle,
+        } = *self;
+        writeln!(out, "row {} {} {} {}", thread, reactor, busy, idle)
     }
 }
 
 impl Printed for Order {
     ghost use Rattle.lw_model.specs.ReportText.{order_line};
+    ghost use Rattle.lw_model.specs.Ranges.{OrderFits};
 
     ghost text = { λ o. order_line o ++ 10 ∷ [] };
 
+    ghost fits = { OrderFits };
+
     fn push_to(&self, _alloc: Global, out: &mut String) -> Result<(), AllocError> {
-        writeln!(out, "order {} {}", self.thread, self.to)
+        let Order { thread, to } = *self;
+        writeln!(out, "order {} {}", thread, to)
     }
 }
 
 impl Printed for Hop {
     ghost use Rattle.lw_model.specs.ReportText.{hop_line};
+    ghost use Rattle.lw_model.specs.Ranges.{HopFits};
 
     ghost text = { λ h. hop_line h ++ 10 ∷ [] };
 
+    ghost fits = { HopFits };
+
     fn push_to(&self, _alloc: Global, out: &mut String) -> Result<(), AllocError> {
-        writeln!(out, "hop {} {}", self.round, self.reactor)
+        let Hop { round, reactor } = *self;
+        writeln!(out, "hop {} {}", round, reactor)
     }
 }
 
 impl Printed for Called {
     ghost use Rattle.lw_model.specs.ReportText.{called_line};
+    ghost use Rattle.lw_model.specs.Ranges.{CalledFits};
 
     ghost text = { λ c. called_line c ++ 10 ∷ [] };
 
+    ghost fits = { CalledFits };
+
     fn push_to(&self, _alloc: Global, out: &mut String) -> Result<(), AllocError> {
-        writeln!(out, "called {} {}", self.at, self.device)
+        let Called { at, device } = *self;
+        writeln!(out, "called {} {}", at, device)
     }
 }
 
 impl Printed for ImageOf {
     ghost use Rattle.lw_model.specs.ReportText.{image_line};
+    ghost use Rattle.lw_model.specs.Ranges.{ImageFits};
 
     ghost text = { λ i. image_line i ++ 10 ∷ [] };
 
+    ghost fits = { ImageFits };
+
     fn push_to(&self, _alloc: Global, out: &mut String) -> Result<(), AllocError> {
         let name = self.name.as_str();
-        writeln!(out, "image {} {} {}", name, self.block, self.blocks)
+        let (block, blocks) = (self.block, self.blocks);
+        writeln!(out, "image {} {} {}", name, block, blocks)
     }
 }
 
 impl Printed for Did {
     ghost use Rattle.lw_model.specs.ReportText.{did_line};
+    ghost use Rattle.lw_model.specs.Ranges.{DidFits};
 
     ghost text = { λ d. did_line d ++ 10 ∷ [] };
+
+    ghost fits = { DidFits };
 
     fn push_to(&self, _alloc: Global, out: &mut String) -> Result<(), AllocError> {
         let (at, op) = (self.at, self.op);
@@ -91,8 +117,11 @@ impl Printed for Did {
 
 impl Printed for Tag {
     ghost use Rattle.lw_model.specs.ReportText.{ran_line};
+    ghost use Rattle.lw_model.specs.Ranges.{TagFits};
 
     ghost text = { λ t. ran_line t ++ 10 ∷ [] };
+
+    ghost fits = { TagFits };
 
     fn push_to(&self, _alloc: Global, out: &mut String) -> Result<(), AllocError> {
         let (sender, number) = (self.sender, self.number);
@@ -122,60 +151,77 @@ impl Printed for Tag {
     }
 }
 
+// Bytes in hexadecimal.
+fn digits_of(alloc: Global, bytes: &[u8]) -> Result<String, AllocError>
+    ensures digits { IfOk result (λ text. string_bytes text ≡ encode_lower bytes.now) }
+    ensures range { IsBytes bytes.now }
+{
+    hex::encode(alloc, bytes)
+}
+
 impl Printed for Reply {
     ghost use Rattle.lw_model.specs.ReportText.{reply_line};
+    ghost use Rattle.lw_model.specs.Ranges.{ReplyFits};
 
     ghost text = { λ r. reply_line r ++ 10 ∷ [] };
 
+    ghost fits = { ReplyFits };
+
     fn push_to(&self, alloc: Global, out: &mut String) -> Result<(), AllocError> {
         let op = self.op;
-        match &self.answer {
+        match self.answer {
             Replied::Ok => writeln!(out, "reply {} ok", op),
-            Replied::Bytes(bytes) => {
-                let digits = hex::encode(alloc, bytes.as_slice())?;
+            Replied::Bytes(ref bytes) => {
+                let digits = digits_of(alloc, bytes.as_slice())?;
                 writeln!(out, "reply {} bytes {}", op, digits)
             }
-            Replied::Writes(writes) => writeln!(out, "reply {} writes {}", op, *writes),
+            Replied::Writes(writes) => writeln!(out, "reply {} writes {}", op, writes),
         }
     }
 }
 
 impl Printed for Op {
     ghost use Rattle.lw_model.specs.ReportText.{op_line};
+    ghost use Rattle.lw_model.specs.Ranges.{OpFits};
 
     ghost text = { λ o. op_line o ++ 10 ∷ [] };
 
+    ghost fits = { OpFits };
+
     fn push_to(&self, alloc: Global, out: &mut String) -> Result<(), AllocError> {
-        match self {
-            Op::Get { image } => writeln!(out, "op get {}", *image),
-            Op::Put { image } => writeln!(out, "op put {}", *image),
+        match *self {
+            Op::Get { image } => writeln!(out, "op get {}", image),
+            Op::Put { image } => writeln!(out, "op put {}", image),
             Op::Write {
                 image,
                 start,
                 count,
-                pattern,
+                ref pattern,
             } => {
-                let digits = hex::encode(alloc, pattern.as_slice())?;
-                writeln!(out, "op write {} {} {} {}", *image, *start, *count, digits)
+                let digits = digits_of(alloc, pattern.as_slice())?;
+                writeln!(out, "op write {} {} {} {}", image, start, count, digits)
             }
             Op::Read {
                 image,
                 start,
                 count,
-            } => { writeln!(out, "op read {} {} {}", *image, *start, *count) }
-            Op::Flush { image } => writeln!(out, "op flush {}", *image),
-            Op::Wait { ticks } => writeln!(out, "op wait {}", *ticks),
-            Op::Visit { image } => writeln!(out, "op visit {}", *image),
+            } => { writeln!(out, "op read {} {} {}", image, start, count) }
+            Op::Flush { image } => writeln!(out, "op flush {}", image),
+            Op::Wait { ticks } => writeln!(out, "op wait {}", ticks),
+            Op::Visit { image } => writeln!(out, "op visit {}", image),
             Op::Each => writeln!(out, "op each"),
-            Op::Unregister { image } => writeln!(out, "op unregister {}", *image),
+            Op::Unregister { image } => writeln!(out, "op unregister {}", image),
         }
     }
 }
 
 impl Printed for ClientOf {
     ghost use Rattle.lw_model.specs.ReportText.{client_lines, text_of_lines};
+    ghost use Rattle.lw_model.specs.Ranges.{ClientFits};
 
     ghost text = { λ c. text_of_lines (client_lines c) };
+
+    ghost fits = { ClientFits };
 
     fn push_to(&self, alloc: Global, out: &mut String) -> Result<(), AllocError> {
         push_client_line(out, self)?;
@@ -185,8 +231,11 @@ impl Printed for ClientOf {
 
 impl Printed for Round {
     ghost use Rattle.lw_model.specs.ReportText.{round_lines, text_of_lines};
+    ghost use Rattle.lw_model.specs.Ranges.{RoundFits};
 
     ghost text = { λ r. text_of_lines (round_lines r) };
+
+    ghost fits = { RoundFits };
 
     fn push_to(&self, alloc: Global, out: &mut String) -> Result<(), AllocError> {
         push_round_line(out, self)?;
@@ -196,37 +245,47 @@ impl Printed for Round {
 }
 
 fn push_client_line(out: &mut String, client: &ClientOf) -> Result<(), AllocError>
-    ensures { OnOk result (string_bytes out.new
+    ensures bytes { OnOk result (string_bytes out.new
         ≡ string_bytes out.old ++ (client_line client.now ++ 10 ∷ [])) }
+    ensures range { OnOk result (Fits32 client.now.depth × Fits64 (length client.now.ops)) }
 {
     let name = client.name.as_str();
-    let count = client.ops.len();
-    writeln!(out, "client {} {} {}", name, client.depth, count)
+    let (depth, count) = (client.depth, client.ops.len());
+    writeln!(out, "client {} {} {}", name, depth, count)
 }
 
 fn push_round_line(out: &mut String, round: &Round) -> Result<(), AllocError>
-    ensures { OnOk result (string_bytes out.new
+    ensures bytes { OnOk result (string_bytes out.new
         ≡ string_bytes out.old ++ (round_line round.now ++ 10 ∷ [])) }
+    ensures range { OnOk result (Fits32 round.now.number × Fits64 round.now.time) }
 {
-    writeln!(out, "round {} {}", round.number, round.time)
+    let (number, time) = (round.number, round.time);
+    writeln!(out, "round {} {}", number, time)
 }
 
 // A result of a visit, behind a space.
 impl Printed for Mark {
     ghost use Rattle.lw_model.specs.ReportText.{mark_word};
+    ghost use Rattle.lw_model.specs.Ranges.{MarkFits};
 
     ghost text = { λ m. 32 ∷ mark_word m };
 
+    ghost fits = { MarkFits };
+
     fn push_to(&self, _alloc: Global, out: &mut String) -> Result<(), AllocError> {
-        write!(out, " {}:{}", self.thread, self.submitted)
+        let Mark { thread, submitted } = *self;
+        write!(out, " {}:{}", thread, submitted)
     }
 }
 
 // A number, behind a space.
 impl Printed for u32 {
     ghost use Rattle.std.specs.Prelude.{decimal};
+    ghost use Rattle.lw_model.specs.Ranges.{Fits32};
 
     ghost text = { λ n. 32 ∷ decimal n };
+
+    ghost fits = { Fits32 };
 
     fn push_to(&self, _alloc: Global, out: &mut String) -> Result<(), AllocError> {
         let n = *self;
@@ -235,8 +294,9 @@ impl Printed for u32 {
 }
 
 fn push_results(alloc: Global, out: &mut String, results: &SeenBy) -> Result<(), AllocError>
-    ensures { OnOk result (string_bytes out.new
+    ensures bytes { OnOk result (string_bytes out.new
         ≡ string_bytes out.old ++ flat_map (λ w. 32 ∷ w) (result_words results.now)) }
+    ensures range { OnOk result (SeenByFits results.now) }
 {
     match results {
         SeenBy::Visit(marks) => push_all(alloc, out, marks.as_slice()),
@@ -253,8 +313,11 @@ fn push_seen_head(out: &mut String, op: u32) -> Result<(), AllocError>
 
 impl Printed for Seen {
     ghost use Rattle.lw_model.specs.ReportText.{seen_line};
+    ghost use Rattle.lw_model.specs.Ranges.{SeenFits};
 
     ghost text = { λ s. seen_line s ++ 10 ∷ [] };
+
+    ghost fits = { SeenFits };
 
     fn push_to(&self, alloc: Global, out: &mut String) -> Result<(), AllocError> {
         push_seen_head(out, self.op)?;

@@ -1,6 +1,7 @@
 //! The lines of the threads and the devices, each with its number.
 ghost use Rattle.std.specs.Prelude.{◌≡◌, ◌++◌, ◌∷◌, [], string_bytes, flat_map, OnOk};
-ghost use Rattle.std.specs.List.{enumerate_from};
+ghost use Rattle.std.specs.List.{AllByRecursion, enumerate_from};
+ghost use Rattle.lw_model.specs.Ranges.{DeviceFits, Fits32, ThreadFits};
 ghost use Rattle.lw_model.specs.ReportText.{device_line, role_word, thread_line, thread_lines, text_of_lines};
 
 use crate::printed::push_all;
@@ -22,11 +23,12 @@ fn push_thread_line(
     number: usize,
     thread: &ThreadRecord,
 ) -> Result<(), AllocError>
-    ensures { OnOk result (string_bytes out.new
+    ensures bytes { OnOk result (string_bytes out.new
         ≡ string_bytes out.old ++ (thread_line number thread.now ++ 10 ∷ [])) }
+    ensures range { OnOk result (Fits32 thread.now.home) }
 {
-    let role = role_text(thread.role);
-    writeln!(out, "thread {} {} {}", number, role, thread.home)
+    let (role, home) = (role_text(thread.role), thread.home);
+    writeln!(out, "thread {} {} {}", number, role, home)
 }
 
 fn push_thread(
@@ -35,8 +37,9 @@ fn push_thread(
     number: usize,
     thread: &ThreadRecord,
 ) -> Result<(), AllocError>
-    ensures { OnOk result (string_bytes out.new
+    ensures bytes { OnOk result (string_bytes out.new
         ≡ string_bytes out.old ++ text_of_lines (thread_lines number thread.now)) }
+    ensures range { OnOk result (ThreadFits thread.now) }
 {
     push_thread_line(out, number, thread)?;
     push_all(alloc, out, thread.hops.as_slice())?;
@@ -52,8 +55,9 @@ pub fn push_threads(
     out: &mut String,
     threads: &[ThreadRecord],
 ) -> Result<(), AllocError>
-    ensures { OnOk result (string_bytes out.new ≡ string_bytes out.old
+    ensures bytes { OnOk result (string_bytes out.new ≡ string_bytes out.old
         ++ flat_map (λ p. text_of_lines (thread_lines p.0 p.1)) (enumerate_from 0 threads.now)) }
+    ensures range { OnOk result (AllByRecursion ThreadFits threads.now) }
 {
     for (number, thread) in threads.iter().enumerate() {
         push_thread(alloc, out, number, thread)?;
@@ -62,19 +66,22 @@ pub fn push_threads(
 }
 
 fn push_device(out: &mut String, number: usize, device: &DeviceEnd) -> Result<(), AllocError>
-    ensures { OnOk result (string_bytes out.new
+    ensures bytes { OnOk result (string_bytes out.new
         ≡ string_bytes out.old ++ (device_line number device.now ++ 10 ∷ [])) }
+    ensures range { OnOk result (DeviceFits device.now) }
 {
-    writeln!(
-        out,
-        "device {} {} {} {}",
-        number, device.given, device.thread, device.callbacks
-    )
+    let DeviceEnd {
+        given,
+        thread,
+        callbacks,
+    } = *device;
+    writeln!(out, "device {} {} {} {}", number, given, thread, callbacks)
 }
 
 pub fn push_devices(out: &mut String, devices: &[DeviceEnd]) -> Result<(), AllocError>
-    ensures { OnOk result (string_bytes out.new ≡ string_bytes out.old
+    ensures bytes { OnOk result (string_bytes out.new ≡ string_bytes out.old
         ++ flat_map (λ p. device_line p.0 p.1 ++ 10 ∷ []) (enumerate_from 0 devices.now)) }
+    ensures range { OnOk result (AllByRecursion DeviceFits devices.now) }
 {
     for (number, device) in devices.iter().enumerate() {
         push_device(out, number, device)?;

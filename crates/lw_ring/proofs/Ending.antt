@@ -1,5 +1,5 @@
 -- What is known once all senders are taken in and the queue was empty.
-use Rattle.std.proofs.Common.{◌≡◌, ℕ, ◌+◌, List, [], ◌++◌, length, Option, ap, ◌∙◌, subst, sym}
+use Rattle.std.proofs.Common.{◌≡◌, ℕ, List, [], ◌++◌, length, Option, ap, ◌∙◌, subst, sym}
 use Rattle.lw_base.specs.declared.message.Tag.{Tag}
 use Rattle.lw_latch.specs.RingEnds.{RingEnd}
 use Rattle.lw_ring.specs.declared.queue.PassView.{PassView}

@@ -1,5 +1,5 @@
 -- What is handed out of a run, and what stays in hand.
-use Rattle.std.proofs.Common.{◌≡◌, ℕ, zero, suc, ◌+◌, ◌-◌, ◌<◌, ◌≤◌, List, [], ◌∷◌, ◌++◌, map, take, drop, get_or, length, All, true, false, refl, sym, ap, ◌∙◌, subst, inl, inr, arith, append_assoc, length-append}
+use Rattle.std.proofs.Common.{◌≡◌, ℕ, zero, suc, ◌+◌, ◌<◌, ◌≤◌, List, [], ◌∷◌, ◌++◌, map, take, drop, get_or, length, All, true, false, sym, ap, ◌∙◌, subst, inl, inr, arith, append_assoc, length-append}
 use Rattle.std.proofs.lemmas.List.{map-append, length-map, take-append-drop, length-take}
 use Rattle.std.proofs.Math.Seq.{drop-append_seam, take-append_seam}
 use Rattle.lw_base.specs.declared.message.Tag.{Tag}
@@ -92,13 +92,13 @@ module _ {T L F : Type 0} (letter : T → L) (tag_of : L → Tag) (fits : ℕ �
   one_off v w u x before after last t s is =
       let more : List T = t.more ++ contents x in
       let got : w.got ++ map letter (contents x) ≡ v.got ++ map letter more = ap (λ (y : PassView L F). y.got ++ map letter (contents x)) t.view ∙ append_assoc v.got (map letter t.more) (map letter (contents x)) ∙ ap (λ l. v.got ++ l) (sym (map-append letter t.more (contents x))) in
-      let fit : AllFit letter tag_of fits v.number v.family v.made (contents x) = subst (λ (y : PassView L F). AllFit letter tag_of fits y.number y.family y.made (contents x)) t.view s.1 in
+      let fit : AllFit letter tag_of fits v.number v.family v.made (contents x) = subst (λ (y : PassView L F). AllFit letter tag_of fits y.number y.family y.made (contents x)) t.view s.fitting in
       record {
         more = more;
-        view = s.0 ∙ ap (λ (y : PassView L F). record y { got = w.got ++ map letter (contents x) }) t.view ∙ (λ k. record v { got = got k });
+        view = s.view ∙ ap (λ (y : PassView L F). record y { got = w.got ++ map letter (contents x) }) t.view ∙ (λ k. record v { got = got k });
         behind = is ∙ ap (λ l. l ++ contents x) t.behind ∙ append_assoc before t.more (contents x);
         fitting = All-append (λ y. FitsRing fits v.number v.family y × ((tag_of (letter y)).sender < v.made)) t.more (contents x) t.fitting fit;
-        short = s.2;
+        short = s.short;
       }
 
   -- what is off the queue has the receiver's view
@@ -136,7 +136,7 @@ module _ {T L F : Type 0} (letter : T → L) (tag_of : L → Tag) (fits : ℕ �
         size = h.2;
         whole = h.3;
         short = off.short;
-        order = (map letter off.more, ap (λ l. l ++ map letter off.more) was ∙ sym (map-append letter before off.more) ∙ ap (map letter) (sym parts) ∙ map-append letter given after);
+        order = record { more = map letter off.more; parts = ap (λ l. l ++ map letter off.more) was ∙ sym (map-append letter before off.more) ∙ ap (map letter) (sym parts) ∙ map-append letter given after };
         given_fit = All-front P given after all;
         after_fit = subst (λ (y : PassView L F). AllFit letter tag_of fits y.number y.family senders after) (sym off.view) (All-back P given after all);
       }

@@ -14,7 +14,7 @@ use Rattle.lw_base.specs.Letters.{sent_by, list_at, FitsRing}
 use Rattle.lw_ring.specs.declared.parcel.Parcel.{Parcel}
 use Rattle.lw_latch.specs.RingWord.{most_sent, most_senders, above_all_sent}
 use Rattle.lw_ring.specs.Queue.{contents, unpacked, fresh, spent, receiver, one_more, the_next, with_sender, with_put, with_got, Facts, FitsView, Posted, Keeps, Delivers, AllFit, Sends, Takes, Saw}
-use Rattle.lw_ring.proofs.Counts.{choose_yes, choose_no, sent_by-no, sent_by-yes, sent_by-append, sent_by-mine, sent_by-others, senders_below, All-front, All-back, below, below_at_most, below_same, counted}
+use Rattle.lw_ring.proofs.Counts.{choose_yes, choose_no, sent_by-append, sent_by-mine, sent_by-others, senders_below, All-front, All-back, below, below_at_most, below_same, counted}
 
 off : {X : Type 0} → false ≡ true → X
 off {X} e = absurd (true≢false (sym e))
@@ -82,14 +82,14 @@ module _ {T L F : Type 0} (letter : T → L) (tag_of : L → Tag) (fits : ℕ �
   -- where the pass is not the first one, the ring is made
   made : (items : List T) (views : List V) (i : ℕ) (v : V) → H items views → get_elem? views i ≡ some v → v.fresh ≡ false → P items views
   made items views i v (inr h) here old = h
-  made items views i v (inl u) here old = absurd (only i (ap (λ l. get_elem? l i) (sym u.1) ∙ here))
+  made items views i v (inl u) here old = absurd (only i (ap (λ l. get_elem? l i) (sym u.first) ∙ here))
     where
       only : (j : ℕ) → get_elem? (fresh {L = L} {F = F} ∷ []) j ≡ some v → ⊥
       only zero e = true≢false (ap (λ (w : V). w.fresh) (some-injective fresh v e) ∙ old)
       only (suc j) e = some-ne-none v (sym e)
 
   pub begins : D [] (fresh ∷ [])
-  begins = inl (refl, refl)
+  begins = inl (record { empty = refl; first = refl })
 
   all_set : (f : Facts L F) (views : List V) (i : ℕ) (w : V) → FitsView f i w → ((j : ℕ) (u : V) → j ≢ i → get_elem? views j ≡ some u → FitsView f j u) → (j : ℕ) (u : V) → get_elem? (set views i w) j ≡ some u → FitsView f j u
   all_set f views i w mine others j u e = ⊎_elim (λ (x : (j ≡ i) × (w ≡ u)). subst (λ (y : ℕ × V). FitsView f y.0 y.1) (λ k. (sym x.0 k, x.1 k)) mine)
@@ -110,17 +110,17 @@ module _ {T L F : Type 0} (letter : T → L) (tag_of : L → Tag) (fits : ℕ �
   }
     where
       fit : (i : ℕ) (v : V) → get_elem? (receiver number family 0 ∷ spent ∷ []) i ≡ some v → FitsView (record { reader = 0; pass_of = λ _. 0; sent = λ _. []; got = []; number = number; family = family }) i v
-      fit zero v e = subst (FitsView (record { reader = 0; pass_of = λ _. 0; sent = λ _. []; got = []; number = number; family = family }) 0) (some-injective _ v e) (
-        refl,
-        (λ s. off s),
-        (λ _. record { its_pass = refl; alone = refl; got = refl; number = refl; family = refl; later = λ p l. (refl, refl); known = λ k l. absurd (omega arith); few = omega arith; taken_in = omega arith }),
-      )
-      fit (suc zero) v e = subst (FitsView (record { reader = 0; pass_of = λ _. 0; sent = λ _. []; got = []; number = number; family = family }) 1) (some-injective _ v e) (refl, (λ s. off s), (λ g. off g))
+      fit zero v e = subst (FitsView (record { reader = 0; pass_of = λ _. 0; sent = λ _. []; got = []; number = number; family = family }) 0) (some-injective _ v e) (record {
+        not_fresh = refl;
+        as_sender = λ s. off s;
+        as_receiver = λ _. record { its_pass = refl; alone = refl; got = refl; number = refl; family = refl; later = λ p l. (refl, refl); known = λ k l. absurd (omega arith); few = omega arith; taken_in = omega arith };
+      })
+      fit (suc zero) v e = subst (FitsView (record { reader = 0; pass_of = λ _. 0; sent = λ _. []; got = []; number = number; family = family }) 1) (some-injective _ v e) (record { not_fresh = refl; as_sender = λ s. off s; as_receiver = λ g. off g })
       fit (suc (suc i)) v e = absurd (some-ne-none v (sym e))
 
   founding : (pass : ℕ) (v : V) (number : ℕ) (family : Option F) → v ≡ fresh → Forks H pass v (receiver number family 0) spent
-  founding pass v number family is items views (inr h) here = absurd (true≢false (sym (ap (λ (w : V). w.fresh) is) ∙ (h.each pass v here).0))
-  founding pass v number family is items views (inl u) here = inr (subst (λ (y : List T × List V). P y.0 (set y.1 pass (receiver number family 0) ++ spent ∷ [])) (λ i. (sym u.0 i, sym u.1 i)) (go pass (ap (λ l. get_elem? l pass) (sym u.1) ∙ here)))
+  founding pass v number family is items views (inr h) here = absurd (true≢false (sym (ap (λ (w : V). w.fresh) is) ∙ (h.each pass v here).not_fresh))
+  founding pass v number family is items views (inl u) here = inr (subst (λ (y : List T × List V). P y.0 (set y.1 pass (receiver number family 0) ++ spent ∷ [])) (λ i. (sym u.empty i, sym u.first i)) (go pass (ap (λ l. get_elem? l pass) (sym u.first) ∙ here)))
     where
       go : (j : ℕ) → get_elem? (fresh {L = L} {F = F} ∷ []) j ≡ some v → P [] (set (fresh ∷ []) j (receiver number family 0) ++ spent ∷ [])
       go zero e = founded number family
@@ -131,15 +131,15 @@ module _ {T L F : Type 0} (letter : T → L) (tag_of : L → Tag) (fits : ℕ �
   dealing pass v old gets room items views h0 here =
       let h = made items views pass v h0 here old in
       let f = h.facts in
-      let mine = (h.each pass v here).2 gets in
+      let mine = (h.each pass v here).as_receiver gets in
       let w : V = one_more v in
       let vs : List V = set views pass w in
       let g : Facts L F = record f { pass_of = but f.pass_of v.made (length vs) } in
       let pass_else = but_else f.pass_of v.made (length vs) in
-      let w_fits : FitsView g pass w = (
-        old,
-        (λ s. off (sym mine.alone ∙ s)),
-        (λ _. record {
+      let w_fits : FitsView g pass w = record {
+        not_fresh = old;
+        as_sender = λ s. off (sym mine.alone ∙ s);
+        as_receiver = λ _. record {
           its_pass = mine.its_pass;
           alone = mine.alone;
           got = mine.got;
@@ -149,24 +149,24 @@ module _ {T L F : Type 0} (letter : T → L) (tag_of : L → Tag) (fits : ℕ �
           known = λ k l. (let t = mine.taken_in in pass_else k (λ e. omega arith) ∙ (mine.known k l).0, (mine.known k l).1);
           few = omega arith;
           taken_in = (let t = mine.taken_in in omega arith);
-        }),
-      ) in
-      let others : (j : ℕ) (u : V) → j ≢ pass → get_elem? views j ≡ some u → FitsView g j u = λ j u apart e. (let o = h.each j u e in (
-        o.0,
-        (λ s. (let q = o.1 s in record { its_pass = pass_else u.from (λ same. q.apart (sym q.its_pass ∙ ap f.pass_of same ∙ (mine.later v.made (omega arith)).0)) ∙ q.its_pass; apart = q.apart; put = q.put; number = q.number; family = q.family })),
-        (λ s. absurd (apart ((o.2 s).its_pass ∙ sym mine.its_pass))),
-      )) in
-      let next : FitsView g (length vs) (the_next v) = (
-        refl,
-        (λ _. record {
+        };
+      } in
+      let others : (j : ℕ) (u : V) → j ≢ pass → get_elem? views j ≡ some u → FitsView g j u = λ j u apart e. (let o = h.each j u e in record {
+        not_fresh = o.not_fresh;
+        as_sender = λ s. (let q = o.as_sender s in record { its_pass = pass_else u.from (λ same. q.apart (sym q.its_pass ∙ ap f.pass_of same ∙ (mine.later v.made (omega arith)).0)) ∙ q.its_pass; apart = q.apart; put = q.put; number = q.number; family = q.family });
+        as_receiver = λ s. absurd (apart ((o.as_receiver s).its_pass ∙ sym mine.its_pass));
+      }) in
+      let next : FitsView g (length vs) (the_next v) = record {
+        not_fresh = refl;
+        as_sender = λ _. record {
           its_pass = but_here f.pass_of v.made (length vs) v.made refl;
           apart = (let r = past views pass v here in λ e. (let same = mine.its_pass in let long = length-set views pass w in omega arith));
           put = sym (mine.later v.made (omega arith)).1;
           number = mine.number;
           family = mine.family;
-        }),
-        (λ s. off s),
-      ) in
+        };
+        as_receiver = λ s. off s;
+      } in
       inr (record {
         facts = g;
         delivered = h.delivered;
@@ -181,7 +181,7 @@ module _ {T L F : Type 0} (letter : T → L) (tag_of : L → Tag) (fits : ℕ �
   posting pass v xs old sends names fit room items views h0 here =
       let h = made items views pass v h0 here old in
       let f = h.facts in
-      let mine = (h.each pass v here).1 sends in
+      let mine = (h.each pass v here).as_sender sends in
       let ls : List L = map letter xs in
       let w : V = with_put v ls in
       let k : ℕ = v.from in
@@ -203,15 +203,15 @@ module _ {T L F : Type 0} (letter : T → L) (tag_of : L → Tag) (fits : ℕ �
             (λ e. subst (λ ys. length ys ≤ most_sent) (sym (here_now p e)) (let len = length-append (f.sent k) ls in let long = length-map xs letter in omega arith))
             (λ n. subst (λ ys. length ys ≤ most_sent) (sym (as_was p n)) (h.short p));
         fitting = All-append (FR f.number f.family) items xs h.fitting fit_f;
-        each = all_set g views pass w (
-          old,
-          (λ _. record { its_pass = mine.its_pass; apart = mine.apart; put = ap (λ ys. ys ++ ls) mine.put ∙ sym (here_now k refl); number = mine.number; family = mine.family }),
-          (λ s. off (sym ((h.each pass v here).2 s).alone ∙ sends)),
-        )
-            (λ j u apart e. (let o = h.each j u e in (
-              o.0,
-              (λ s. (let q = o.1 s in record { its_pass = q.its_pass; apart = q.apart; put = q.put ∙ sym (as_was u.from (λ same. apart (sym q.its_pass ∙ ap f.pass_of same ∙ mine.its_pass))); number = q.number; family = q.family })),
-              (λ s. (let q = o.2 s in record {
+        each = all_set g views pass w (record {
+          not_fresh = old;
+          as_sender = λ _. record { its_pass = mine.its_pass; apart = mine.apart; put = ap (λ ys. ys ++ ls) mine.put ∙ sym (here_now k refl); number = mine.number; family = mine.family };
+          as_receiver = λ s. off (sym ((h.each pass v here).as_receiver s).alone ∙ sends);
+        })
+            (λ j u apart e. (let o = h.each j u e in record {
+              not_fresh = o.not_fresh;
+              as_sender = λ s. (let q = o.as_sender s in record { its_pass = q.its_pass; apart = q.apart; put = q.put ∙ sym (as_was u.from (λ same. apart (sym q.its_pass ∙ ap f.pass_of same ∙ mine.its_pass))); number = q.number; family = q.family });
+              as_receiver = λ s. (let q = o.as_receiver s in record {
                 its_pass = q.its_pass;
                 alone = q.alone;
                 got = q.got;
@@ -221,8 +221,8 @@ module _ {T L F : Type 0} (letter : T → L) (tag_of : L → Tag) (fits : ℕ �
                 known = λ p lt. ((q.known p lt).0, (q.known p lt).1 ∙ sym (as_was p (λ same. mine.apart (sym mine.its_pass ∙ ap f.pass_of (sym same) ∙ (q.known p lt).0))));
                 few = q.few;
                 taken_in = q.taken_in;
-              })),
-            )));
+              });
+            }));
       })
 
   -- messages come from the front
@@ -231,7 +231,7 @@ module _ {T L F : Type 0} (letter : T → L) (tag_of : L → Tag) (fits : ℕ �
   taking pass v xs old gets items views h0 here =
       let h = made (xs ++ items) views pass v h0 here old in
       let f = h.facts in
-      let mine = (h.each pass v here).2 gets in
+      let mine = (h.each pass v here).as_receiver gets in
       let ls : List L = map letter xs in
       let w : V = with_got v ls in
       let g : Facts L F = record f { got = f.got ++ ls } in
@@ -255,16 +255,16 @@ module _ {T L F : Type 0} (letter : T → L) (tag_of : L → Tag) (fits : ℕ �
           delivered = λ p. ap (sent_by tag_of p) (sym split) ∙ h.delivered p;
           short = h.short;
           fitting = All-back (FR f.number f.family) xs items h.fitting;
-          each = all_set g views pass w (
-            old,
-            (λ s. off (sym mine.alone ∙ s)),
-            (λ _. record { its_pass = mine.its_pass; alone = mine.alone; got = ap (λ ys. ys ++ ls) mine.got; number = mine.number; family = mine.family; later = mine.later; known = mine.known; few = mine.few; taken_in = mine.taken_in }),
-          )
-              (λ j u apart e. (let o = h.each j u e in (
-                o.0,
-                (λ s. (let q = o.1 s in record { its_pass = q.its_pass; apart = q.apart; put = q.put; number = q.number; family = q.family })),
-                (λ s. absurd (apart ((o.2 s).its_pass ∙ sym mine.its_pass))),
-              )));
+          each = all_set g views pass w (record {
+            not_fresh = old;
+            as_sender = λ s. off (sym mine.alone ∙ s);
+            as_receiver = λ _. record { its_pass = mine.its_pass; alone = mine.alone; got = ap (λ ys. ys ++ ls) mine.got; number = mine.number; family = mine.family; later = mine.later; known = mine.known; few = mine.few; taken_in = mine.taken_in };
+          })
+              (λ j u apart e. (let o = h.each j u e in record {
+                not_fresh = o.not_fresh;
+                as_sender = λ s. (let q = o.as_sender s in record { its_pass = q.its_pass; apart = q.apart; put = q.put; number = q.number; family = q.family });
+                as_receiver = λ s. absurd (apart ((o.as_receiver s).its_pass ∙ sym mine.its_pass));
+              }));
         }),
         (λ k d l. (subst (λ (y : ℕ × Option F). FR y.0 y.1 (get_or xs k d)) (λ i. (sym mine.number i, sym mine.family i)) (fit k d l), known k d l)),
         omega arith,
@@ -275,21 +275,21 @@ module _ {T L F : Type 0} (letter : T → L) (tag_of : L → Tag) (fits : ℕ �
   joining pass v other u old gets sends next items views h0 here apart there =
       let h = made items views pass v h0 here old in
       let f = h.facts in
-      let mine = (h.each pass v here).2 gets in
+      let mine = (h.each pass v here).as_receiver gets in
       let w : V = with_sender v u in
       let vs : List V = set views pass w in
       let was : get_elem? views other ≡ some u = ⊎_elim (λ (x : (other ≡ pass) × (w ≡ u)). absurd (apart x.0)) (λ (x : (other ≢ pass) × (get_elem? views other ≡ some u)). x.1) (at_set views pass other w u there) in
-      let theirs = (h.each other u was).1 sends in
+      let theirs = (h.each other u was).as_sender sends in
       let g : Facts L F = record f { pass_of = but f.pass_of u.from f.reader } in
       let pass_here : (p : ℕ) → p ≡ u.from → g.pass_of p ≡ f.reader = but_here f.pass_of u.from f.reader in
       let pass_else : (p : ℕ) → p ≢ u.from → g.pass_of p ≡ f.pass_of p = but_else f.pass_of u.from f.reader in
       let kept : (p : ℕ) → f.pass_of p ≡ f.reader → g.pass_of p ≡ f.reader = λ p e. dite (ℕ_discrete p u.from) (pass_here p) (λ n. pass_else p n ∙ e) in
       let is_made : u.from < v.made = dite (dec_le v.made u.from) (λ le. absurd (theirs.apart (sym theirs.its_pass ∙ (mine.later u.from le).0))) (λ nle. omega arith) in
       let longer = length-append v.known (u.put ∷ []) in
-      let w_fits : FitsView g pass w = (
-        old,
-        (λ s. off (sym mine.alone ∙ s)),
-        (λ _. record {
+      let w_fits : FitsView g pass w = record {
+        not_fresh = old;
+        as_sender = λ s. off (sym mine.alone ∙ s);
+        as_receiver = λ _. record {
           its_pass = mine.its_pass;
           alone = mine.alone;
           got = mine.got;
@@ -301,20 +301,20 @@ module _ {T L F : Type 0} (letter : T → L) (tag_of : L → Tag) (fits : ℕ �
               (λ n. (let lt' : k < length v.known = omega arith in (kept k (mine.known k lt').0, at_front v.known u.put k lt' ∙ (mine.known k lt').1)));
           few = mine.few;
           taken_in = omega arith;
-        }),
-      ) in
+        };
+      } in
       let middle : (j : ℕ) (y : V) → j ≢ other → get_elem? vs j ≡ some y → FitsView g j y = λ j y far e. all_set_but g views pass w other w_fits
-      (λ i z i_apart i_far e'. (let o = h.each i z e' in (
-        o.0,
-        (λ s. (let q = o.1 s in record { its_pass = pass_else z.from (λ same. i_far (sym q.its_pass ∙ ap f.pass_of same ∙ theirs.its_pass)) ∙ q.its_pass; apart = q.apart; put = q.put; number = q.number; family = q.family })),
-        (λ s. absurd (i_apart ((o.2 s).its_pass ∙ sym mine.its_pass))),
-      ))) j y far e in
+      (λ i z i_apart i_far e'. (let o = h.each i z e' in record {
+        not_fresh = o.not_fresh;
+        as_sender = λ s. (let q = o.as_sender s in record { its_pass = pass_else z.from (λ same. i_far (sym q.its_pass ∙ ap f.pass_of same ∙ theirs.its_pass)) ∙ q.its_pass; apart = q.apart; put = q.put; number = q.number; family = q.family });
+        as_receiver = λ s. absurd (i_apart ((o.as_receiver s).its_pass ∙ sym mine.its_pass));
+      })) j y far e in
       inr (record {
         facts = g;
         delivered = h.delivered;
         short = h.short;
         fitting = h.fitting;
-        each = all_set g vs other spent (refl, (λ s. off s), (λ s. off s)) middle;
+        each = all_set g vs other spent (record { not_fresh = refl; as_sender = λ s. off s; as_receiver = λ s. off s }) middle;
       })
 
   -- The steps on parcels.
@@ -343,17 +343,17 @@ module _ {T L F : Type 0} (letter : T → L) (tag_of : L → Tag) (fits : ℕ �
   pub takes : (pass : ℕ) (v : V) → v.fresh ≡ false → v.gets ≡ true → Pops D pass v (Takes letter tag_of fits v)
   takes pass v old gets x parcels views h here =
       let t = taking pass v (contents x) old gets (unpacked parcels) views h here in
-      (with_got v (map letter (contents x)), t.0, (refl, t.1, t.2))
+      (with_got v (map letter (contents x)), t.0, record { view = refl; fitting = t.1; short = t.2 })
 
   pub sees : (pass : ℕ) (v : V) → Learns D pass v (Saw letter tag_of fits v)
-  sees pass v items views h here = (views, pass, h, here)
+  sees pass v items views h here = record { views = views; pass = pass; rule = h; here = here }
 
   -- with all senders taken in and nothing left, what was taken of each is what it sent
   pub settled : (v : V) → v.fresh ≡ false → v.gets ≡ true → length v.known ≡ v.made → Saw letter tag_of fits v [] → ((p : ℕ) → sent_by tag_of p v.got ≡ list_at v.known p) × (length v.got ≡ below v.made (λ p. length (list_at v.known p)))
   settled v old gets all saw =
-      let h = made [] saw.0 saw.1 v saw.2 saw.3 old in
+      let h = made [] saw.views saw.pass v saw.rule saw.here old in
       let f = h.facts in
-      let mine = (h.each saw.1 v saw.3).2 gets in
+      let mine = (h.each saw.pass v saw.here).as_receiver gets in
       let each : (p : ℕ) → sent_by tag_of p v.got ≡ f.sent p = λ p. ap (sent_by tag_of p) (mine.got ∙ sym (append-nil f.got)) ∙ h.delivered p in
       let knows : (p : ℕ) → f.sent p ≡ list_at v.known p = λ p. dite (dec_le v.made p) (λ le. (mine.later p le).1 ∙ sym (at_past v.known p (omega arith))) (λ nle. sym (mine.known p (omega arith)).1) in
       let size = counted tag_of v.made v.got (λ p le. each p ∙ (mine.later p le).1) in

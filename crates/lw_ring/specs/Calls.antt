@@ -12,15 +12,37 @@ use Rattle.lw_ring.specs.Queue.{Saw}
 abbrev pub NamedFrom : {T L : Type 0} → (T → L) → (L → Tag) → ℕ → ℕ → List T → Type 0
 NamedFrom {T} letter tag_of sender first xs = (k : ℕ) (d : T) → k < length xs → Names (tag_of (letter (slice_index_or xs k d))) sender (first + k)
 
--- what a refused send of so many messages hands back, why it was refused, and what it leaves
+-- What a refused send of so many messages hands back, why it was refused, and what it leaves.
+
+-- the end would have sent too many
+pub record AfterSpent {X L F : Type 0} (back value : X) (count : ℕ) (old new : Sender L F) : Type 0 where
+  pub whole : back ≡ value
+  pub no_room : most_sent < length old.sent + count
+  pub same : new ≡ old
+
+-- the end has found the ring closed once more
+pub record AfterExited {X L F : Type 0} (back value : X) (count : ℕ) (old new : Sender L F) : Type 0 where
+  pub whole : back ≡ value
+  pub room : length old.sent + count ≤ most_sent
+  pub latch : IsSome old.latch
+  pub found : new ≡ record old { found = old.found + 1 }
+
+-- there was no memory; the end has never found the ring closed
+pub record AfterNoMemory {X L F : Type 0} (back value : X) (count : ℕ) (old new : Sender L F) : Type 0 where
+  pub whole : back ≡ value
+  pub room : length old.sent + count ≤ most_sent
+  pub never_found : old.found ≡ 0
+  pub same : new ≡ old
+
 abbrev pub AfterRefusal : {X L F : Type 0} → SendRefusal X → X → ℕ → Sender L F → Sender L F → Type 0
-AfterRefusal (Spent x) value count old new = (x ≡ value) × (most_sent < length old.sent + count) × (new ≡ old)
-AfterRefusal (Exited x) value count old new = (x ≡ value) × (length old.sent + count ≤ most_sent) × IsSome old.latch × (new ≡ record old { found = old.found + 1 })
-AfterRefusal (NoMemory x) value count old new = (x ≡ value) × (length old.sent + count ≤ most_sent) × (old.found ≡ 0) × (new ≡ old)
+AfterRefusal (Spent back) value count old new = AfterSpent back value count old new
+AfterRefusal (Exited back) value count old new = AfterExited back value count old new
+AfterRefusal (NoMemory back) value count old new = AfterNoMemory back value count old new
 
 -- what a take gave, and what is in the receiver's hand behind it: what was in hand before, and what then came off the queue
-abbrev pub InTurn : {L : Type 0} → List L → List L → List L → Type 0
-InTurn {L} before given after = (more : List L) × (before ++ more ≡ given ++ after)
+pub record InTurn {L : Type 0} (before given after : List L) : Type 0 where
+  pub more : List L
+  pub parts : before ++ more ≡ given ++ after
 
 module _ {T L F : Type 0} (letter : T → L) (tag_of : L → Tag) (fits : ℕ → F → T → Type 0) where
   -- at one moment nothing waited, while the receiver knew this

@@ -84,8 +84,11 @@ module _ {L F : Type 0} where
     pub few : v.made ≤ most_senders
     pub taken_in : length v.known ≤ v.made
 
-  abbrev pub FitsView : Facts L F → ℕ → PassView L F → Type 0
-  FitsView f i v = (v.fresh ≡ false) × (v.sends ≡ true → FitsSender f i v) × (v.gets ≡ true → FitsReceiver f i v)
+  -- what a pass of a ring that is made knows is so
+  pub record FitsView (f : Facts L F) (i : ℕ) (v : PassView L F) : Type 0 where
+    pub not_fresh : v.fresh ≡ false
+    pub as_sender : v.sends ≡ true → FitsSender f i v
+    pub as_receiver : v.gets ≡ true → FitsReceiver f i v
 
 module _ {T L F : Type 0} (letter : T → L) (tag_of : L → Tag) (fits : ℕ → F → T → Type 0) where
   -- the rule of a ring that is made, of the messages that wait, oldest first, and of the passes' views
@@ -96,8 +99,13 @@ module _ {T L F : Type 0} (letter : T → L) (tag_of : L → Tag) (fits : ℕ �
     pub fitting : All (FitsRing fits facts.number facts.family) items
     pub each : (i : ℕ) (v : PassView L F) → get_elem? views i ≡ some v → FitsView facts i v
 
+  -- the ring is not made yet: nothing waits, and there is the first pass alone
+  pub record Unmade (items : List T) (views : List (PassView L F)) : Type 0 where
+    pub empty : items ≡ []
+    pub first : views ≡ fresh ∷ []
+
   abbrev pub Keeps : List T → List (PassView L F) → Type 0
-  Keeps items views = ((items ≡ []) × (views ≡ fresh ∷ [])) ⊎ Posted items views
+  Keeps items views = Unmade items views ⊎ Posted items views
 
   -- the rule of the queue, in which the messages stand in parcels
   abbrev pub Delivers : List (Parcel T) → List (PassView L F) → Type 0
@@ -108,8 +116,10 @@ module _ {T L F : Type 0} (letter : T → L) (tag_of : L → Tag) (fits : ℕ �
   AllFit number family senders xs = All (λ x. FitsRing fits number family x × ((tag_of (letter x)).sender < senders)) xs
 
   -- what a pop tells of the parcel that it gave
-  abbrev pub Takes : PassView L F → Parcel T → PassView L F → Type 0
-  Takes v x w = (w ≡ with_got v (map letter (contents x))) × AllFit v.number v.family v.made (contents x) × (length w.got < above_all_sent)
+  pub record Takes (v : PassView L F) (x : Parcel T) (w : PassView L F) : Type 0 where
+    pub view : w ≡ with_got v (map letter (contents x))
+    pub fitting : AllFit v.number v.family v.made (contents x)
+    pub short : length w.got < above_all_sent
 
   -- some messages came off the queue, and stand behind those that were at hand
   pub record TakenOff (v w : PassView L F) (before after : List T) : Type 0 where
@@ -120,8 +130,11 @@ module _ {T L F : Type 0} (letter : T → L) (tag_of : L → Tag) (fits : ℕ �
     pub short : length w.got < above_all_sent
 
   -- at one moment these parcels waited, and a pass had this view
-  abbrev pub Saw : PassView L F → List (Parcel T) → Type 0
-  Saw v parcels = (views : List (PassView L F)) × (i : ℕ) × Delivers parcels views × (get_elem? views i ≡ some v)
+  pub record Saw (v : PassView L F) (parcels : List (Parcel T)) : Type 0 where
+    pub views : List (PassView L F)
+    pub pass : ℕ
+    pub rule : Delivers parcels views
+    pub here : get_elem? views pass ≡ some v
 
 -- what a push tells
 abbrev pub Sends : {T L F : Type 0} → (T → L) → PassView L F → Parcel T → PassView L F → Type 0

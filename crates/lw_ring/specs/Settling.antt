@@ -5,8 +5,9 @@ use Rattle.lw_ring.specs.Ends.{Sender, Receiver, IsEnd}
 
 module _ {L F : Type 0} where
   -- these are all ends of the receiver's ring, in order
-  abbrev pub AreAllEnds : Receiver L F → List (Sender L F) → Type 0
-  AreAllEnds r es = (length es ≡ r.senders) × ((k : ℕ) (d : Sender L F) → k < length es → IsEnd r k (slice_index_or es k d))
+  pub record AreAllEnds (r : Receiver L F) (es : List (Sender L F)) : Type 0 where
+    pub count : length es ≡ r.senders
+    pub each : (k : ℕ) (d : Sender L F) → k < length es → IsEnd r k (slice_index_or es k d)
 
   -- what each end has sent
   abbrev pub all_sent : List (Sender L F) → List (List L)

@@ -20,14 +20,35 @@ use thiserror::Error;
 /// How many messages an end can send: 2^40.
 const MOST_SENT: u64 = 1_099_511_627_776;
 
-/// The queue that the ends of a ring share.
+/// Unused words, so many that what lies on their two sides is on different cache lines, also where a processor fetches two
+/// lines at once.
+#[derive(Drop)]
+pub struct Gap {
+    words: [u64; 16],
+}
+
+impl Gap {
+    pub fn new() -> Self {
+        Gap { words: [0; 16] }
+    }
+}
+
+/// The queue that the ends of a ring share. It is for no caller.
+///
+/// All ends read at each call where the queue's head and tail lie, so nothing that is written often may lie beside it.
 pub struct Shared<T: Tagged + Drop> {
+    pub(crate) before: Gap,
     pub(crate) queue: Queue<T>,
+    pub(crate) behind: Gap,
 }
 
 impl<T: Tagged + Drop> Drop for Shared<T> {
     fn drop(self) {
-        let Self { queue } = self;
+        let Self {
+            before: _,
+            queue,
+            behind: _,
+        } = self;
         queue.destroy();
     }
 }
@@ -55,15 +76,13 @@ pub struct SendEnd<T: Tagged + Drop> {
     pub(crate) latch: Option<LatchSend>,
     pub(crate) sender: u32,
     pub(crate) sent: u64,
+    // Each send writes `sent`, so another sender's end never lies beside it.
+    pub(crate) gap: Gap,
 }
 
 impl<T: Tagged + Drop> Model for SendEnd<T> {
-    ghost use Rattle.std.specs.Prelude.{◌≡◌, ◌≤◌};
     ghost use Rattle.std.specs.Arc.{arc_value};
-    ghost use Rattle.crossbeam_queue.specs.SegTies.{IsSegPassOf};
-    ghost use Rattle.lw_base.specs.Letters.{Numbered};
-    ghost use Rattle.lw_latch.specs.RingWord.{most_sent};
-    ghost use Rattle.lw_ring.specs.Ends.{Sender, latch_id, found_of, Outside, SenderView};
+    ghost use Rattle.lw_ring.specs.Ends.{Sender, latch_id, found_of, IsSendEnd};
 
     ghost Value = { Sender T.Letter T.Family };
 
@@ -78,11 +97,7 @@ impl<T: Tagged + Drop> Model for SendEnd<T> {
     } };
 
     ghost invariant = { λ e.
-        IsSegPassOf (arc_value e.shared).queue e.pass
-        × SenderView e.pass.me.view.client e.sender e.sent
-        × (e.sent ≤ most_sent)
-        × Outside e.latch e.sent
-        × Numbered T.tag_of e.sender e.pass.me.view.client.put };
+        IsSendEnd T.tag_of (arc_value e.shared).queue e.pass e.latch e.sender e.sent };
 }
 
 impl<T: Tagged + Drop> SendEnd<T> {
@@ -102,11 +117,12 @@ impl<T: Tagged + Drop> SendEnd<T> {
         self.sent
     }
 
-    /// Sends a message, which stands last in this end's sent list from then on. It takes no memory for itself.
+    /// Sends a message, which stands last in this end's sent list from then on.
     ///
     /// A refused one comes back, and the sent list stays as it is. It is refused as `Spent` exactly where 2^40 were
     /// sent, and as `Exited` only where this call's own step found the ring's latch closed. After an `Exited` this end
-    /// sends nothing more. The message names this end and the number that comes next, and fits the ring.
+    /// sends nothing more. `NoMemory` is for want of a block of the queue, which has room for 31 messages or runs. The message
+    /// names this end and the number that comes next, and fits the ring.
     pub fn send<R: Wait>(&mut self, rt: &R, value: T) -> Result<(), SendRefusal<T>>
         requires names { Names (T.tag_of (T.letter value)) self.old.sender (length self.old.sent) }
         requires fits { FitsRing T.fits self.old.number self.old.family value }
@@ -137,8 +153,8 @@ impl<T: Tagged + Drop> SendEnd<T> {
     }
 
     /// Sends a run: several messages, one at least, in one push, with one step into the latch and one out of it. They
-    /// stand last in this end's sent list from then on, in their order. The vector travels with them, to the receiver's
-    /// `spare`.
+    /// stand last in this end's sent list from then on, in their order. The vector travels with them, and the receiver may
+    /// keep it for its `spare`.
     ///
     /// A refused run comes back whole, for the reasons of `send`: as `Spent` exactly where more than 2^40 messages would
     /// be sent. The messages name this end and the numbers that come next, and each fits the ring.

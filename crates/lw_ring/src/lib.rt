@@ -2,7 +2,8 @@
 //!
 //! Messages stand in one queue that all ends share, singly or in runs of one sender. Its rule: between any two steps, of
 //! each sender, what came off the queue and then what waits there is what it sent. A ring with a latch can be closed, and
-//! then holds nothing and takes nothing more. A ring without one, `open_ring`, is never closed.
+//! then holds nothing and takes nothing more. An open ring is one without a latch: it is never closed. A ring with a latch
+//! that is not closed yet is called just that.
 #![tactic(auto)]
 
 mod ends;

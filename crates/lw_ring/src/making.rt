@@ -6,7 +6,7 @@ ghost use Rattle.lw_latch.specs.RingWord.{most_senders};
 ghost use Rattle.lw_ring.specs.Queue.{receiver, one_more};
 ghost use Rattle.lw_ring.specs.Ends.{latch_id, found_of, Outside, ReceiverView, new_sender, new_receiver};
 
-use crate::ends::{SendEnd, Shared};
+use crate::ends::{Gap, SendEnd, Shared};
 use crate::queue::{Dealing, Founding, Pass, Queue};
 use crate::recv::RecvEnd;
 use lw_base::{Naming, NoMemory, Tagged};
@@ -18,7 +18,7 @@ use std::sync::Arc;
 /// How many emptied vectors a receiver keeps.
 const MOST_SPARES: usize = 8;
 
-/// A new ring that can be closed, for `senders` senders, numbered from 0.
+/// A new ring that can be closed, for 1 to 127 senders, numbered from 0. Without memory there is none.
 ///
 /// `number` is that of the receiver, which with the family decides what fits.
 pub fn ring<T: Tagged + Drop>(
@@ -37,7 +37,7 @@ pub fn ring<T: Tagged + Drop>(
     ring_as::<T, Brand>(alloc, senders, number)
 }
 
-/// A new ring without a latch, which is never closed. The rest is as for `ring`.
+/// A new open ring: it has no latch, and is never closed. The rest is as for `ring`.
 pub fn open_ring<T: Tagged + Drop>(
     alloc: Global,
     senders: u32,
@@ -128,7 +128,12 @@ fn found<T: Tagged + Drop, B: Naming<T::Family>>(
 {
     let (queue, mut pass) = Queue::<T>::with_rule(alloc)?;
     drop(queue.another::<Founding<B>>(&mut pass));
-    let shared = Arc::new(alloc, Shared { queue })?;
+    let shared = Shared {
+        before: Gap::new(),
+        queue,
+        behind: Gap::new(),
+    };
+    let shared = Arc::new(alloc, shared)?;
     Ok((shared, pass))
 }
 
@@ -156,6 +161,7 @@ fn deal<T: Tagged + Drop>(
         latch,
         sender,
         sent: 0,
+        gap: Gap::new(),
     })
 }
 

@@ -1,4 +1,5 @@
-//! The rule of a ring's queue: what each pass knows, and what each kind of step tells the pass that makes it.
+//! The rule of a ring's queue: what each pass knows, and what each kind of step tells the pass that makes it. Nothing here is
+//! for callers.
 use crate::parcel::Parcel;
 use crossbeam_queue::protocol::{Join, Lesson, Outcome, Protocol, Split};
 use crossbeam_queue::{RuledSegQueue, SegPass};

@@ -26,20 +26,16 @@ pub struct RecvEnd<T: Tagged + Drop> {
     pub(crate) senders: u32,
     // How many messages were handed out.
     pub(crate) taken: u64,
-    // The rest of the run that was begun, the last message first.
+    // The rest of the run that was begun, its last message first.
     pub(crate) hand: Vec<T>,
     // Vectors of runs that were handed out, for as many as it has room.
     pub(crate) spares: Vec<Vec<T>>,
 }
 
 impl<T: Tagged + Drop> Model for RecvEnd<T> {
-    ghost use Rattle.std.specs.Prelude.{◌≡◌, ◌+◌, ◌-◌, ◌<◌, ◌≤◌, [], length, map, reverse, take, drop, All};
+    ghost use Rattle.std.specs.Prelude.{take, drop};
     ghost use Rattle.std.specs.Arc.{arc_value};
-    ghost use Rattle.crossbeam_queue.specs.SegTies.{IsSegPassOf};
-    ghost use Rattle.lw_base.specs.Letters.{total_length};
-    ghost use Rattle.lw_latch.specs.RingWord.{above_all_sent};
-    ghost use Rattle.lw_ring.specs.Queue.{AllFit};
-    ghost use Rattle.lw_ring.specs.Ends.{Receiver, latch_id, found_of, closed_of, tries_of, seen_of, Receiving, ReceiverView, IsSpare};
+    ghost use Rattle.lw_ring.specs.Ends.{Receiver, latch_id, found_of, closed_of, tries_of, seen_of, IsRecvEnd};
 
     ghost Value = { Receiver T.Letter T.Family };
 
@@ -59,16 +55,8 @@ impl<T: Tagged + Drop> Model for RecvEnd<T> {
     } };
 
     ghost invariant = { λ e.
-        IsSegPassOf (arc_value e.shared).queue e.pass
-        × ReceiverView e.pass.me.view.client e.senders (e.taken + length e.hand.items)
-        × (e.taken + length e.hand.items < above_all_sent)
-        × (length e.pass.me.view.client.known ≤ e.senders)
-        × Receiving e.latch (e.senders - length e.pass.me.view.client.known)
-        (total_length e.pass.me.view.client.known) e.taken
-        × (drop e.taken e.pass.me.view.client.got ≡ map T.letter (reverse e.hand.items))
-        × AllFit T.letter T.tag_of T.fits e.pass.me.view.client.number e.pass.me.view.client.family
-        e.senders (reverse e.hand.items)
-        × All IsSpare e.spares.items };
+        IsRecvEnd T.letter T.tag_of T.fits (arc_value e.shared).queue e.pass e.latch e.senders e.taken
+        e.hand.items e.spares.items };
 }
 
 // The oldest parcel that waits.
@@ -86,6 +74,16 @@ pub(crate) fn pop<T: Tagged + Drop, R: Wait>(
         (λ x. Takes T.letter T.tag_of T.fits pass.old.me.view.client x pass.new.me.view.client) }
 {
     queue.pop_as::<Taking, R>(rt, pass)
+}
+
+// Whether nothing waits. It is two loads, and so much less than a pop that finds nothing.
+fn is_empty<T: Tagged + Drop>(queue: &Queue<T>, pass: &mut Pass<T>) -> bool
+    requires { IsSegPassOf queue.now pass.old }
+    ensures queue { IsSegPassOf queue.now pass.new }
+    ensures same { pass.new.me.view.client ≡ pass.old.me.view.client }
+    ensures empty { result ≡ true → Saw T.letter T.tag_of T.fits pass.old.me.view.client [] }
+{
+    queue.is_empty_as::<Taking>(pass)
 }
 
 // Hands out what is in hand, until there are `max` messages.
@@ -187,9 +185,8 @@ fn fill<T: Tagged + Drop, R: Wait>(
     max: usize,
 )
     requires queue { IsSegPassOf queue.now pass.old }
-    requires receiver { (pass.old.me.view.client.fresh ≡ false)
-        × (pass.old.me.view.client.gets ≡ true)
-        × (length pass.old.me.view.client.got < above_all_sent) }
+    requires receiver { (pass.old.me.view.client.fresh ≡ false) × (pass.old.me.view.client.gets ≡ true) }
+    requires short { length pass.old.me.view.client.got < above_all_sent }
     requires room { (length batch.old.items ≤ max) × (max ≤ vec_capacity batch.old) }
     requires hand { length batch.old.items < max → hand.old.items ≡ [] }
     requires spares { All IsSpare spares.old.items }
@@ -205,6 +202,9 @@ fn fill<T: Tagged + Drop, R: Wait>(
     ensures empty { length batch.new.items < max →
         Saw T.letter T.tag_of T.fits pass.new.me.view.client [] }
 {
+    if batch.len() < max && is_empty(queue, pass) {
+        return;
+    }
     for _ in rt.forever() {
         if batch.len() >= max {
             return;
@@ -226,14 +226,15 @@ impl<T: Tagged + Drop> RecvEnd<T> {
         self.taken
     }
 
-    /// Takes up to `max` messages, oldest first, into an empty vector that has the room. It takes no memory.
+    /// Takes up to `max` messages, oldest first, into an empty vector that has the room, and keeps it. The ring is not
+    /// closed.
     ///
     /// What is in hand of a run comes first; where that is enough, the queue is left alone. Then parcels come off the queue
     /// one by one, and what goes past `max` stays in hand. There are fewer than `max` only where nothing is in hand and the
-    /// queue was found empty, by loads alone. Each message fits the ring, and its tag names one of the ring's senders.
+    /// queue was empty at a moment of the call. Each message fits the ring, and its tag names one of the ring's senders.
     ///
-    /// That a waiting message is taken is shown by tests alone: a look at an empty queue leaves no mark that a clause could
-    /// name.
+    /// That a waiting message is taken is shown by tests alone: a look at an empty queue, which is three loads, leaves no
+    /// mark that a clause could name.
     pub fn take_into<R: Wait>(&mut self, rt: &R, max: usize, batch: &mut Vec<T>)
         requires room { (batch.old.items ≡ []) × (max ≤ vec_capacity batch.old) }
         requires not_closed { self.old.closed ≡ 0 }
@@ -263,8 +264,9 @@ impl<T: Tagged + Drop> RecvEnd<T> {
         self.taken += batch.len() as u64;
     }
 
-    /// An emptied vector of a run that was handed out, for a run to be sent, if one is kept. It has memory already. So
-    /// where requests and replies go in runs of like length, no memory is taken once they are going.
+    /// A vector that a run came in, emptied, for a run to be sent, if one is kept. It has room for one message at least.
+    ///
+    /// How many are kept, and that one is kept of a run that was handed out, is shown by a test and by `bench/ring.sh`.
     pub fn spare(&mut self) -> Option<Vec<T>>
         ensures same { self.new ≡ self.old }
         ensures spare { IfSome result IsSpare }
@@ -283,13 +285,11 @@ impl<T: Tagged + Drop> RecvEnd<T> {
           tries = self.new.tries;
           seen = self.new.seen;
         } }
-        ensures closed { result ≡ Closing.Closed →
-            (self.new.closed ≡ 1) × (self.new.tries ≡ self.old.tries) × (self.new.seen ≡ self.old.seen) }
+        ensures closed { result ≡ Closing.Closed → self.new ≡ record self.old { closed = 1 } }
         ensures not_yet { (seen : ℕ) → result ≡ Closing.NotYet seen →
-            (self.new.closed ≡ 0)
-            × (self.new.tries ≡ self.old.tries + 1)
-            × (self.new.seen ≡ seen)
-            × (seen ≢ length self.old.taken * finished_unit) }
+            self.new ≡ record self.old { tries = self.old.tries + 1; seen = seen } }
+        ensures other_word { (seen : ℕ) → result ≡ Closing.NotYet seen →
+            seen ≢ length self.old.taken * finished_unit }
     {
         latching::close(&mut self.latch, self.taken)
     }

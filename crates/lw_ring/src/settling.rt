@@ -106,7 +106,8 @@ fn take_all_in<T: Tagged + Drop>(
 
 // Takes the next sender in. From then on the receiver knows what that sender knew.
 fn take_in<T: Tagged + Drop>(recv: &mut RecvEnd<T>, end: SendEnd<T>)
-    requires { IsEnd recv.old (length recv.old.known) end × (length recv.old.known < recv.old.senders) }
+    requires end { IsEnd recv.old (length recv.old.known) end }
+    requires waiting { length recv.old.known < recv.old.senders }
     ensures { recv.new ≡ record recv.old {
       known = recv.old.known ++ end.sent ∷ [];
       found = recv.old.found + end.found;
@@ -118,6 +119,7 @@ fn take_in<T: Tagged + Drop>(recv: &mut RecvEnd<T>, end: SendEnd<T>)
         latch,
         sender: _,
         sent: _,
+        gap: _,
     } = end;
     recv.shared.queue.absorb::<Dealing>(&mut recv.pass, pass);
     latching::take_in(&mut recv.latch, latch);
@@ -173,9 +175,8 @@ fn drain<T: Tagged + Drop, R: Wait>(
     mut left: Vec<T>,
 ) -> Result<Vec<T>, NoMemory>
     requires queue { IsSegPassOf queue.now pass.old }
-    requires receiver { (pass.old.me.view.client.fresh ≡ false)
-        × (pass.old.me.view.client.gets ≡ true)
-        × (length pass.old.me.view.client.got < above_all_sent) }
+    requires receiver { (pass.old.me.view.client.fresh ≡ false) × (pass.old.me.view.client.gets ≡ true) }
+    requires short { length pass.old.me.view.client.got < above_all_sent }
     ensures queue { IfOk result (λ _. IsSegPassOf queue.now pass.new) }
     ensures off { IfOk result (λ all. TakenOff T.letter T.tag_of T.fits pass.old.me.view.client
         pass.new.me.view.client left.items all.items) }

@@ -47,7 +47,7 @@ fn one(alloc: Global) -> Result<(LatchRecv, LatchSend), NoMemory>
 }
 
 #[test]
-fn it_stays_open_while_a_sender_is_inside(rt: HostRuntime) -> Result<(), Fail> {
+fn it_does_not_close_while_a_sender_is_inside(rt: HostRuntime) -> Result<(), Fail> {
     let (mut recv, mut end) = one(rt.alloc())?;
     if end.enter() == Enter::Inside {
         assert!(rt; recv.close(0) == Closing::NotYet { seen: 1 });

@@ -1,7 +1,7 @@
 -- What stands in the record under a thread is what its log says.
-use Rattle.std.proofs.Common.{◌≡◌, ℕ, zero, suc, ◌+◌, ◌<◌, ◌≤◌, ◌==◌, Bool, true, false, List, [], ◌∷◌, map, length, Option, Some, None, slice_get, unwrap_or, option_map, refl, sym, ap, subst, ◌∙◌, arith, inl, inr}
+use Rattle.std.proofs.Common.{◌≡◌, ℕ, zero, suc, ◌+◌, ◌<◌, ◌≤◌, ◌==◌, nat_lt, nat_le, Bool, true, false, List, [], ◌∷◌, map, length, Option, Some, None, slice_get, unwrap_or, option_map, refl, sym, ap, subst, ◌∙◌, arith, inl, inr}
 use Rattle.std.specs.List.{AllByRecursion, enumerate_from, range_with_len}
-use Rattle.std.proofs.lemmas.Bool.{cases_eq, eqb-true, false≢true}
+use Rattle.std.proofs.lemmas.Bool.{and_parts, cases_eq, eqb-true, leb-true, false≢true}
 use Rattle.lw_model.specs.declared.script.Script.{Script}
 use Rattle.lw_model.specs.declared.record.Record.{Record}
 use Rattle.lw_model.specs.declared.record.ThreadRecord.{ThreadRecord}
@@ -58,8 +58,15 @@ past_get [] k h = refl
 past_get (x ∷ xs) zero h = absurd (omega (arith, h))
 past_get (x ∷ xs) (suc k) h = past_get xs k (omega (arith, h))
 
+pub no_items : {X : Type 0} (xs : List X) → length xs ≡ 0 → xs ≡ []
+no_items [] e = refl
+no_items (x ∷ xs) e = absurd (omega (arith, e))
+
+pub client_within : (s : Script) (t : ℕ) → is_client s t ≡ true → t < thread_count s
+client_within s t c = omega (arith, leb-true t (length s.clients) (and_parts (nat_lt 0 t) (nat_le t (length s.clients)) c).1)
+
 -- the role of a log by whether its thread is the app, and whether it is a client
-abbrev RoleOf : Script → ℕ → Log → Bool → Bool → Type 0
+abbrev pub RoleOf : Script → ℕ → Log → Bool → Bool → Type 0
 RoleOf s t l a b = elim a [ true ↦ AppEnded s l | false ↦ elim b [ true ↦ ClientEnded s t l | false ↦ OwnerEnded l ] ]
 
 module _ (r : Record) (logs : List Log) (w : IsWholeRun r logs) where

@@ -2,8 +2,8 @@
 use Rattle.std.proofs.Common.{◌≡◌, ℕ, zero, suc, ◌+◌, ◌<◌, ◌≤◌, ◌==◌, nat_lt, nat_le, Bool, true, false, ◌&&◌, ◌||◌, not, List, [], ◌∷◌, map, filter_map, length, count_by, refl, sym, subst, ap, ◌∙◌, arith, inl, inr}
 use Rattle.std.specs.Prelude.{slice_index_or, Any, if◌then◌else◌}
 use Rattle.std.specs.List.{list_all, list_any, range_with_len}
-use Rattle.std.proofs.lemmas.Bool.{cases_eq, eqb-true, and_parts, false≢true, ltb-true, ltb-false, leb-true, eq-eqb, ne_eqb}
-use Rattle.lw_base.specs.Letters.{sent_by, Names}
+use Rattle.std.proofs.lemmas.Bool.{cases_eq, eqb-true, and_parts, false≢true, ltb-true, ltb-false, leb-true, ne_eqb}
+use Rattle.lw_base.specs.Letters.{sent_by, Names, Numbered}
 use Rattle.lw_base.specs.Totals.{total}
 use Rattle.lw_model.specs.declared.script.Script.{Script}
 use Rattle.lw_base.specs.declared.ends.DeviceEnd.{DeviceEnd}
@@ -93,39 +93,38 @@ nothing_sent s [] h = refl
 nothing_sent zero (l ∷ logs) h = absurd (omega (arith, h))
 nothing_sent (suc s) (l ∷ logs) h = nothing_sent s logs (omega (arith, h))
 
-pub rings_from : (logs : List Log) → runs_of logs ≡ sends_to logs → senders_are_threads logs ≡ true → all_numbered logs ≡ all_true (length logs) → RingsSettled logs
-rings_from logs e f g = record {
-  run_is_sent = λ t s within. at t s within (nat_lt s (length logs)) refl;
-  numbered = λ t s within below k d less.
-      let tests = each_in_range _ _ 0 (length logs) s (each_in_range _ _ 0 (length logs) t g (omega arith) (omega (arith, within))) (omega arith) (omega (arith, below)) in
-      let named = numbered_from s 0 (to_thread t (sent_by_thread logs s)) tests k d less in
-      (named.0, omega (arith, named.1));
-}
+pub run_from : (logs : List Log) → runs_of logs ≡ sends_to logs → senders_are_threads logs ≡ true → (t s : ℕ) → t < length logs → sent_by (λ l. l.tag) s (run_by logs t) ≡ to_thread t (sent_by_thread logs s)
+run_from logs e f t s within = at (nat_lt s (length logs)) refl
   where
-    at : (t s : ℕ) → t < length logs → (b : Bool) → nat_lt s (length logs) ≡ b → sent_by (λ l. l.tag) s (run_by logs t) ≡ to_thread t (sent_by_thread logs s)
-    at t s within true is = each_in_range _ _ 0 (length logs) s (each_in_range _ _ 0 (length logs) t e (omega arith) (omega (arith, within))) (omega arith) (omega (arith, ltb-true s (length logs) is))
-    at t s within false is = none_of s (length logs) (ltb-false s (length logs) is) (run_by logs t) (run_below (length logs) t logs f) ∙ sym (ap (to_thread t) (nothing_sent s logs (ltb-false s (length logs) is)))
+    at : (b : Bool) → nat_lt s (length logs) ≡ b → sent_by (λ l. l.tag) s (run_by logs t) ≡ to_thread t (sent_by_thread logs s)
+    at true is = each_in_range _ _ 0 (length logs) s (each_in_range _ _ 0 (length logs) t e (omega arith) (omega (arith, within))) (omega arith) (omega (arith, ltb-true s (length logs) is))
+    at false is = none_of s (length logs) (ltb-false s (length logs) is) (run_by logs t) (run_below (length logs) t logs f) ∙ sym (ap (to_thread t) (nothing_sent s logs (ltb-false s (length logs) is)))
+
+pub all_numbered_from : (logs : List Log) → all_numbered logs ≡ all_true (length logs) → (t s : ℕ) → t < length logs → s < length logs → Numbered (λ l. l.tag) s (to_thread t (sent_by_thread logs s))
+all_numbered_from logs g t s within below k d less =
+    let tests = each_in_range _ _ 0 (length logs) s (each_in_range _ _ 0 (length logs) t g (omega arith) (omega (arith, within))) (omega arith) (omega (arith, below)) in
+    let named = numbered_from s 0 (to_thread t (sent_by_thread logs s)) tests k d less in
+    (named.0, omega (arith, named.1))
+
+pub rings_from : (logs : List Log) → runs_of logs ≡ sends_to logs → senders_are_threads logs ≡ true → all_numbered logs ≡ all_true (length logs) → RingsSettled logs
+rings_from logs e f g = record { run_is_sent = run_from logs e f; numbered = all_numbered_from logs g }
 
 -- ---- rows
 
 -- a note of a row that found nothing shut and began nothing
 abbrev pub is_sound : Note → ℕ → Bool → Bool
-is_sound n t refused = (not refused || nat_le 1 n.found) && (not (n.begun == 0) || n.count == 0) && (n.begun == 0 || n.began_by == t) && nat_le n.fired n.begun
+is_sound n t refused = (not refused || nat_le 1 n.found) && (n.begun == 0 || n.began_by == t)
 
 pub note_from : (s : Script) (t d : ℕ) (l : Log) (n : Note) → n.ordinals ≡ filter_map (ordinal_given (is_on s t d)) (steps l) → filter_map (count_begun (is_on s t d)) (steps l) ≡ begun_in n
     → count_by (λ x. x.device == d) l.lines.called ≡ n.fired → is_sound n t (list_any (says (is_on s t d) is_refusal) (steps l)) ≡ true → NoteFits s t d l n
 note_from s t d l n e f g h =
-    let a = and_parts ((not (list_any (says (is_on s t d) is_refusal) (steps l)) || nat_le 1 n.found) && (not (n.begun == 0) || n.count == 0) && (n.begun == 0 || n.began_by == t)) (nat_le n.fired n.begun) h in
-    let b = and_parts ((not (list_any (says (is_on s t d) is_refusal) (steps l)) || nat_le 1 n.found) && (not (n.begun == 0) || n.count == 0)) (n.begun == 0 || n.began_by == t) a.0 in
-    let c = and_parts (not (list_any (says (is_on s t d) is_refusal) (steps l)) || nat_le 1 n.found) (not (n.begun == 0) || n.count == 0) b.0 in
+    let c = and_parts (not (list_any (says (is_on s t d) is_refusal) (steps l)) || nat_le 1 n.found) (n.begun == 0 || n.began_by == t) h in
     record {
       ordinals = e;
       found = λ is. leb-true 1 n.found (if_true (list_any (says (is_on s t d) is_refusal) (steps l)) (nat_le 1 n.found) is c.0);
       begun = f;
-      counts = λ is. eqb-true n.count 0 (if_true (n.begun == 0) (n.count == 0) (eq-eqb n.begun 0 is) c.1);
-      began_by = λ some. eqb-true n.began_by t (if_false (n.begun == 0) (n.began_by == t) (ne_eqb n.begun 0 (λ is. omega (arith, some, is))) b.1);
+      began_by = λ some. eqb-true n.began_by t (if_false (n.begun == 0) (n.began_by == t) (ne_eqb n.begun 0 (λ is. omega (arith, some, is))) c.1);
       fired = g;
-      only_begun = leb-true n.fired n.begun a.1;
     }
   where
     if_true : (p q : Bool) → p ≡ true → (not p || q) ≡ true → q ≡ true
@@ -138,12 +137,11 @@ note_from s t d l n e f g h =
 
 pub settled_from : (ns : List Note) (e : DeviceEnd) → map (λ k. total (λ n. times k n.ordinals) ns) (range_with_len 0 e.given) ≡ map (λ k. 1) (range_with_len 0 e.given)
     → total (λ n. length n.ordinals) ns ≡ e.given → Any (λ n. (n.begun ≡ 1) × (n.count ≡ e.given) × (n.began_by ≡ e.thread)) ns
-    → total (λ n. n.begun) ns ≡ 1 → total (λ n. n.fired) ns ≡ e.callbacks → e.callbacks ≡ 1 → DeviceSettled ns e
-settled_from ns e once count began alone fired one = record {
+    → total (λ n. n.fired) ns ≡ e.callbacks → e.callbacks ≡ 1 → DeviceSettled ns e
+settled_from ns e once count began fired one = record {
   once = λ k less. each_in_range _ _ 0 e.given k once (omega arith) (omega (arith, less));
   count = count;
   began = began;
-  alone = alone;
   fired = fired;
   one_callback = one;
 }

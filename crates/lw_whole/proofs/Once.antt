@@ -18,7 +18,7 @@ use Rattle.lw_whole.proofs.TokenRuns.{Token, count_tags}
 use Rattle.lw_whole.proofs.TokenFlow.{runs_at, runs_are, starts_of, goes_of, few, up, came, start}
 use Rattle.lw_whole.proofs.TokenWay.{Begun, begun, home}
 
-none_counted : (w : What) (past : List Tag) → count_tags w past ≡ 0 → list_any (λ x. is_same_token w x.what) past ≡ false
+pub none_counted : (w : What) (past : List Tag) → count_tags w past ≡ 0 → list_any (λ x. is_same_token w x.what) past ≡ false
 none_counted w [] e = refl
 none_counted w (m ∷ past) e = at (is_same_token w m.what) e (λ f. none_counted w past f)
   where

@@ -17,7 +17,7 @@ app_log = app_log_of (moved_app)
     (done_of 1 0 (idle ∷ []) ∷ [])
     ([] ∷ [] ∷ [])
     ((2, plain 0 0 what.Stop) ∷ [])
-    (1 ∷ [])
+    (2 ∷ [])
     (unregistered 0 0 ∷ [])
 
 abbrev mover_log : Log
@@ -69,7 +69,7 @@ stopped_ended = record {
   callbacks = refl;
   stays_shut = (refl, tt);
   own_row = record { devices = refl; notes = (note_from moved.script 2 0 stopped_log idle refl refl refl refl, tt) };
-  role = record { did = refl; called = refl; row = refl };
+  role = record { did = refl; row = refl };
 }
 
 abbrev logs : List Log
@@ -80,7 +80,7 @@ moved-whole = record {
   threads = refl;
   each = (app_ended, (mover_ended, (stopped_ended, tt)));
   rings = rings_from logs refl refl refl;
-  registry = (settled_from (notes_of 0 logs) (device_at moved 0) refl refl (0, note_at app_log.row 0, omega arith, refl, (refl, refl, refl)) refl refl refl, tt);
+  registry = (settled_from (notes_of 0 logs) (device_at moved 0) refl refl (0, note_at app_log.row 0, omega arith, refl, (refl, refl, refl)) refl refl, tt);
   moved = record {
     taken = record { round = 1; order = order 1 0 } ∷ [];
     homes = (refl, (refl, (refl, tt)));

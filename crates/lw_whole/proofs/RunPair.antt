@@ -75,7 +75,7 @@ app_log = app_log_of (pair_app)
     (done_of 2 0 (idle ∷ given (0 ∷ []) ∷ []) ∷ done_of 1 0 (given (0 ∷ []) ∷ given (1 ∷ []) ∷ []) ∷ [])
     ([] ∷ [] ∷ [] ∷ [] ∷ [])
     ((3, plain 0 0 what.Stop) ∷ (4, plain 0 0 what.Stop) ∷ [])
-    (2 ∷ 2 ∷ [])
+    (4 ∷ 4 ∷ [])
     (unregistered 1 0 ∷ unregistered 2 0 ∷ [])
 
 abbrev first_log : Log
@@ -153,7 +153,7 @@ keeper_ended = record {
   callbacks = refl;
   stays_shut = (refl, (refl, tt));
   own_row = record { devices = refl; notes = (note_from pair.script 3 0 keeper_log idle refl refl refl refl, (note_from pair.script 3 1 keeper_log idle refl refl refl refl, tt)) };
-  role = record { did = refl; called = refl; row = refl };
+  role = record { did = refl; row = refl };
 }
 
 other_ended : Ended pair.script 4 other_log
@@ -166,7 +166,7 @@ other_ended = record {
   callbacks = refl;
   stays_shut = (refl, (refl, tt));
   own_row = record { devices = refl; notes = (note_from pair.script 4 0 other_log idle refl refl refl refl, (note_from pair.script 4 1 other_log idle refl refl refl refl, tt)) };
-  role = record { did = refl; called = refl; row = refl };
+  role = record { did = refl; row = refl };
 }
 
 abbrev logs : List Log
@@ -177,7 +177,7 @@ pair-whole = record {
   threads = refl;
   each = (app_ended, (first_ended, (second_ended, (keeper_ended, (other_ended, tt)))));
   rings = rings_from logs refl refl refl;
-  registry = (settled_from (notes_of 0 logs) (device_at pair 0) refl refl (0, note_at app_log.row 0, omega arith, refl, (refl, refl, refl)) refl refl refl, (settled_from (notes_of 1 logs) (device_at pair 1) refl refl (0, note_at app_log.row 1, omega arith, refl, (refl, refl, refl)) refl refl refl, tt));
+  registry = (settled_from (notes_of 0 logs) (device_at pair 0) refl refl (0, note_at app_log.row 0, omega arith, refl, (refl, refl, refl)) refl refl, (settled_from (notes_of 1 logs) (device_at pair 1) refl refl (0, note_at app_log.row 1, omega arith, refl, (refl, refl, refl)) refl refl, tt));
   moved = record {
     taken = [];
     homes = (refl, (refl, (refl, (refl, (refl, tt)))));

@@ -111,7 +111,7 @@ keeper_ended = record {
   callbacks = refl;
   stays_shut = (refl, tt);
   own_row = record { devices = refl; notes = (note_from shut.script 4 0 keeper_log idle refl refl refl refl, tt) };
-  role = record { did = refl; called = refl; row = refl };
+  role = record { did = refl; row = refl };
 }
 
 abbrev logs : List Log
@@ -122,7 +122,7 @@ shut-whole = record {
   threads = refl;
   each = (app_ended, (reader_ended, (shutter_ended, (late_ended, (keeper_ended, tt)))));
   rings = rings_from logs refl refl refl;
-  registry = (settled_from (notes_of 0 logs) (device_at shut 0) refl refl (0, note_at app_log.row 0, omega arith, refl, (refl, refl, refl)) refl refl refl, tt);
+  registry = (settled_from (notes_of 0 logs) (device_at shut 0) refl refl (0, note_at app_log.row 0, omega arith, refl, (refl, refl, refl)) refl refl, tt);
   moved = record {
     taken = [];
     homes = (refl, (refl, (refl, (refl, (refl, tt)))));

@@ -1,6 +1,6 @@
 -- A whole run with a visit past a client that has exited, and a cast over five threads.
 use Rattle.std.proofs.Common.{List, [], ◌∷◌, refl, arith, inl, inr}
-use Rattle.std.proofs.lemmas.Bool.{false≢true}
+use Rattle.std.proofs.lemmas.Bool.{false≢true, true≢false}
 use Rattle.lw_base.specs.declared.message.What.TheVariants as what
 use Rattle.lw_model.specs.declared.record.Answer.TheVariants as answer
 use Rattle.lw_model.specs.Devices.{device_at}
@@ -9,7 +9,7 @@ use Rattle.lw_model.proofs.Verdicts.{visit_and_cast-lawful}
 use Rattle.lw_whole.specs.Letters.{marked, reached}
 use Rattle.lw_whole.specs.Logs.{Log}
 use Rattle.lw_whole.specs.Notes.{idle, note_at, notes_of}
-use Rattle.lw_whole.specs.Threads.{Ended}
+use Rattle.lw_whole.specs.Threads.{Ended, AllEnded}
 use Rattle.lw_whole.specs.WholeRun.{IsWholeRun}
 use Rattle.lw_whole.proofs.Computed.{rings_from, note_from, settled_from}
 use Rattle.lw_whole.proofs.Parts.{letter, plain, done_of, given, unregistered, app_log_of, client_log, owner_log}
@@ -19,7 +19,7 @@ app_log = app_log_of (rounds_app)
     (done_of 1 0 (idle ∷ []) ∷ letter 2 0 (what.Visit 2 1 0) (marked ([])) ∷ letter 3 0 (what.Cast 3 0) (reached ([])) ∷ done_of 3 1 (idle ∷ []) ∷ done_of 2 1 (given (0 ∷ []) ∷ []) ∷ [])
     ([] ∷ ((2, letter 0 0 (what.Visit 2 1 0) (marked ([]))) ∷ []) ∷ ((2, letter 0 1 (what.Cast 3 0) (reached (0 ∷ []))) ∷ []) ∷ [] ∷ [] ∷ [] ∷ [])
     ((4, plain 0 0 what.Stop) ∷ [])
-    (1 ∷ [])
+    (6 ∷ [])
     (unregistered 1 0 ∷ [])
 
 abbrev idler_log : Log
@@ -111,7 +111,7 @@ keeper_ended = record {
   callbacks = refl;
   stays_shut = (refl, tt);
   own_row = record { devices = refl; notes = (note_from visit_and_cast.script 4 0 keeper_log idle refl refl refl refl, tt) };
-  role = record { did = refl; called = refl; row = refl };
+  role = record { did = refl; row = refl };
 }
 
 abbrev logs : List Log
@@ -122,7 +122,7 @@ visit_and_cast-whole = record {
   threads = refl;
   each = (app_ended, (idler_ended, (visitor_ended, (caster_ended, (keeper_ended, tt)))));
   rings = rings_from logs refl refl refl;
-  registry = (settled_from (notes_of 0 logs) (device_at visit_and_cast 0) refl refl (0, note_at app_log.row 0, omega arith, refl, (refl, refl, refl)) refl refl refl, tt);
+  registry = (settled_from (notes_of 0 logs) (device_at visit_and_cast 0) refl refl (0, note_at app_log.row 0, omega arith, refl, (refl, refl, refl)) refl refl, tt);
   moved = record {
     taken = [];
     homes = (refl, (refl, (refl, (refl, (refl, tt)))));
@@ -132,4 +132,23 @@ visit_and_cast-whole = record {
   };
   rounds = visit_and_cast-lawful.rounds_and_orders;
   pool = record { small = refl; large = refl };
+}
+
+-- and its threads are such that they have a text
+pub visit_and_cast-ended : AllEnded visit_and_cast.script logs
+visit_and_cast-ended = record {
+  accepted = refl;
+  count = refl;
+  roles = (
+    record { role = refl; replies = λ e. refl; seen = λ e. refl },
+    (
+      record { role = refl; replies = λ e. absurd (true≢false e); seen = λ e. absurd (true≢false e) },
+      (
+        record { role = refl; replies = λ e. absurd (true≢false e); seen = λ e. absurd (true≢false e) },
+        (record { role = refl; replies = λ e. absurd (true≢false e); seen = λ e. absurd (true≢false e) }, (record { role = refl; replies = λ e. refl; seen = λ e. refl }, tt)),
+      ),
+    ),
+  );
+  each = visit_and_cast-whole.each;
+  rings = visit_and_cast-whole.rings;
 }

@@ -78,7 +78,7 @@ Stands x (step.Did i d) = slice_get x.did i ≡ Some d
 Stands x (step.Called i c) = slice_get x.called i ≡ Some c
 Stands x (step.Ran i m) = slice_get x.ran i ≡ Some m
 
-placed : {X : Type 0} (P : ℕ → X → Type 0) (n : ℕ) (xs : List X) → ((k : ℕ) (x : X) → slice_get xs k ≡ Some x → P (n + k) x) → AllByRecursion (λ p. P p.0 p.1) (enumerate_from n xs)
+pub placed : {X : Type 0} (P : ℕ → X → Type 0) (n : ℕ) (xs : List X) → ((k : ℕ) (x : X) → slice_get xs k ≡ Some x → P (n + k) x) → AllByRecursion (λ p. P p.0 p.1) (enumerate_from n xs)
 placed P n [] h = tt
 placed P n (x ∷ xs) h = (subst (λ m. P m x) (omega arith) (h 0 x refl), placed P (n + 1) xs (λ k y e. subst (λ m. P m y) (omega arith) (h (suc k) y e)))
 

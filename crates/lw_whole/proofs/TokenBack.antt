@@ -38,8 +38,12 @@ among_either P (x ∷ xs) ys (inr h) = elim (among_either P xs ys h) [ inl a ↦
 abbrev pub IsLetter : What → Letter → Type 0
 IsLetter v x = x.tag.what ≡ v
 
+-- one of these letters for thread o
+abbrev pub IsTo : ℕ → (Letter → Type 0) → ℕ × Letter → Type 0
+IsTo o P p = (p.0 ≡ o) × P p.1
+
 abbrev pub IsSend : ℕ → What → ℕ × Letter → Type 0
-IsSend o v p = (p.0 ≡ o) × (p.1.tag.what ≡ v)
+IsSend o v p = IsTo o (IsLetter v) p
 
 pub counted_among : (q : What → Bool) (v : What) → ((u : What) → q u ≡ true → u ≡ v) → (ls : List Letter) → 1 ≤ count_if q (map (λ x. x.tag) ls) → Among (IsLetter v) ls
 counted_among q v is [] some = absurd (omega (arith, some))
@@ -50,24 +54,24 @@ counted_among q v is (x ∷ xs) some = at (q x.tag.what) refl some (λ more. cou
     at false e some go = inr (go (omega (arith, some)))
 
 -- a letter came of some sender
-pub of_some_sender : (v : What) (ls : List Letter) → Among (IsLetter v) ls → (s : ℕ) × Among (IsLetter v) (sent_by (λ l. l.tag) s ls)
-of_some_sender v [] h = absurd h
-of_some_sender v (x ∷ xs) (inl h) = (x.tag.sender, at (x.tag.sender == x.tag.sender) (eq-eqb x.tag.sender x.tag.sender refl))
+pub of_some_sender : (P : Letter → Type 0) (ls : List Letter) → Among P ls → (s : ℕ) × Among P (sent_by (λ l. l.tag) s ls)
+of_some_sender P [] h = absurd h
+of_some_sender P (x ∷ xs) (inl h) = (x.tag.sender, at (x.tag.sender == x.tag.sender) (eq-eqb x.tag.sender x.tag.sender refl))
   where
-    at : (b : Bool) → b ≡ true → Among (IsLetter v) (if b then x ∷ sent_by (λ l. l.tag) x.tag.sender xs else sent_by (λ l. l.tag) x.tag.sender xs)
+    at : (b : Bool) → b ≡ true → Among P (if b then x ∷ sent_by (λ l. l.tag) x.tag.sender xs else sent_by (λ l. l.tag) x.tag.sender xs)
     at true e = inl h
     at false e = absurd (false≢true e)
-of_some_sender v (x ∷ xs) (inr h) = let rest = of_some_sender v xs h in (rest.0, at rest.0 (x.tag.sender == rest.0) rest.1)
+of_some_sender P (x ∷ xs) (inr h) = let rest = of_some_sender P xs h in (rest.0, at rest.0 (x.tag.sender == rest.0) rest.1)
   where
-    at : (s : ℕ) (b : Bool) → Among (IsLetter v) (sent_by (λ l. l.tag) s xs) → Among (IsLetter v) (if b then x ∷ sent_by (λ l. l.tag) s xs else sent_by (λ l. l.tag) s xs)
+    at : (s : ℕ) (b : Bool) → Among P (sent_by (λ l. l.tag) s xs) → Among P (if b then x ∷ sent_by (λ l. l.tag) s xs else sent_by (λ l. l.tag) s xs)
     at s true g = inr g
     at s false g = g
 
-pub sent_to : (o : ℕ) (v : What) (ps : List (ℕ × Letter)) → Among (IsLetter v) (to_thread o ps) → Among (IsSend o v) ps
-sent_to o v [] h = h
-sent_to o v (p ∷ ps) h = at (p.0 == o) refl h (λ g. sent_to o v ps g)
+pub sent_to : (o : ℕ) (P : Letter → Type 0) (ps : List (ℕ × Letter)) → Among P (to_thread o ps) → Among (IsTo o P) ps
+sent_to o P [] h = h
+sent_to o P (p ∷ ps) h = at (p.0 == o) refl h (λ g. sent_to o P ps g)
   where
-    at : (b : Bool) → (p.0 == o) ≡ b → Among (IsLetter v) (map (λ (q : ℕ × Letter). q.1) (cond b (p ∷ filter (λ q. q.0 == o) ps) (filter (λ q. q.0 == o) ps))) → (Among (IsLetter v) (to_thread o ps) → Among (IsSend o v) ps) → IsSend o v p ⊎ Among (IsSend o v) ps
+    at : (b : Bool) → (p.0 == o) ≡ b → Among P (map (λ (q : ℕ × Letter). q.1) (cond b (p ∷ filter (λ q. q.0 == o) ps) (filter (λ q. q.0 == o) ps))) → (Among P (to_thread o ps) → Among (IsTo o P) ps) → IsTo o P p ⊎ Among (IsTo o P) ps
     at true e (inl g) go = inl (eqb-true p.0 o e, g)
     at true e (inr g) go = inr (go g)
     at false e g go = inr (go g)
@@ -79,7 +83,7 @@ is_back (what.Visited k) = true
 is_back (what.Casted k) = true
 is_back _ = false
 
-back_no_token : (v : What) → is_back v ≡ true → is_same_token v v ≡ false
+pub back_no_token : (v : What) → is_back v ≡ true → is_same_token v v ≡ false
 back_no_token (what.Visited k) e = refl
 back_no_token (what.Casted k) e = refl
 back_no_token (what.Request k) e = absurd (false≢true e)
@@ -131,7 +135,7 @@ came_home s t n o v w x from load (p ∷ []) e tok by (inr home) (inl is) = reco
     other true f = let same : v ≡ w = sym is.1 ∙ same_is w p.1.tag.what f in absurd (false≢true (sym (back_no_token v e) ∙ ap (λ z. is_same_token z z) same ∙ tok))
 came_home s t n o v w x from load (p ∷ q ∷ rest) e tok by h g = absurd h
 
-token_made : (t k : ℕ) (o : Option Op) (w : What) → elim o [ None ↦ None | Some x ↦ token_of_op t k x ] ≡ Some w → Token w
+pub token_made : (t k : ℕ) (o : Option Op) (w : What) → elim o [ None ↦ None | Some x ↦ token_of_op t k x ] ≡ Some w → Token w
 token_made t k None w e = cc
 token_made t k (Some (op.Visit d)) w e = let is : what.Visit t k d ≡ w = cc in subst Token is (visit_same t k d)
 token_made t k (Some op.Each) w e = let is : what.Cast t k ≡ w = cc in subst Token is (cast_same t k)
@@ -182,7 +186,7 @@ module _ (s : Script) (t n o : ℕ) (l : Log) (v : What) (is : is_back v ≡ tru
           (inl (ap (λ b. b && true && elim (token_of s t k) as (λ z. Bool) [ None ↦ false | Some u ↦ is_same_token w u ]) c ∙ ap (λ (z : Option What). elim z as (λ z. Bool) [ None ↦ false | Some u ↦ is_same_token w u ]) e ∙ tok)) h g
   of_line past i at k a now c h g = absurd (plain_not o v [] now is (ap addressed h) tt g)
 
-  of_step : (past : List Step) (x : Step) (now : List (ℕ × Letter)) → SentBy s t l past x now → Among (IsSend o v) now → CameOf s t n o v x now
+  pub of_step : (past : List Step) (x : Step) (now : List (ℕ × Letter)) → SentBy s t l past x now → Among (IsSend o v) now → CameOf s t n o v x now
   of_step past (step.Did i x) now h g = at (is_client s t) refl h
     where
       at : (b : Bool) → is_client s t ≡ b → Either b (SentByDid s t past x now) (now ≡ []) → CameOf s t n o v (step.Did i x) now

@@ -15,7 +15,7 @@ use Rattle.lw_model.specs.declared.step.Step.{Step}
 use Rattle.lw_model.specs.declared.step.Step.TheVariants as step
 use Rattle.lw_model.specs.Threads.{thread_count, is_client, ops_of, op_at, images, owner_of}
 use Rattle.lw_model.specs.OwnOrder.{with_past}
-use Rattle.lw_model.specs.Holding.{is_started}
+use Rattle.lw_model.specs.Holding.{is_started, runs}
 use Rattle.lw_model.specs.Answers.{answer_fits, depth_fits}
 use Rattle.lw_model.specs.Sent.{is_same_token, token_of, token_of_op, sent_last}
 use Rattle.lw_whole.specs.Letters.{Letter}
@@ -28,24 +28,28 @@ use Rattle.lw_whole.proofs.Numbers.{run_at, none_sent}
 use Rattle.lw_whole.proofs.Answers.{one_more, one_ran, one_called}
 use Rattle.lw_whole.proofs.Flow.{sum_below, sum_same, sum_both, count_at}
 use Rattle.lw_whole.proofs.TokenCounts.{same_is, NoneIs, done_none, stop_none, none_to, starts, dests, outs, count_to, count_to-append, S_of, D_of, sent_counts}
-use Rattle.lw_whole.proofs.TokenRuns.{Token, length_append, started_goes, goes_few, count_tags, count_steps, few_of, up_of}
+use Rattle.lw_whole.proofs.TokenRuns.{Token, length_append, started_goes, goes_few, count_tags, count_steps, run_few, few_out, up_of}
 
 -- ---- runs by sender
 
+-- f of each letter, added up
+abbrev pub sum_letters : (Letter → ℕ) → List Letter → ℕ
+sum_letters f [] = 0
+sum_letters f (x ∷ xs) = f x + sum_letters f xs
+
 abbrev pub count_run : What → List Letter → ℕ
-count_run w [] = 0
-count_run w (x ∷ xs) = cond (is_same_token w x.tag.what) 1 0 + count_run w xs
+count_run w ls = sum_letters (λ x. cond (is_same_token w x.tag.what) 1 0) ls
 
 count_run-tags : (w : What) (ls : List Letter) → count_run w ls ≡ count_tags w (map (λ x. x.tag) ls)
 count_run-tags w [] = refl
 count_run-tags w (x ∷ xs) = ap (λ n. cond (is_same_token w x.tag.what) 1 0 + n) (count_run-tags w xs)
 
-sum_zero : (n : ℕ) → sum_below (λ s. 0) n ≡ 0
+pub sum_zero : (n : ℕ) → sum_below (λ s. 0) n ≡ 0
 sum_zero zero = refl
 sum_zero (suc n) = omega (arith, sum_zero n)
 
 -- one of a sum
-sum_one : (k a n : ℕ) → k < n → sum_below (λ s. cond (k == s) a 0) n ≡ a
+pub sum_one : (k a n : ℕ) → k < n → sum_below (λ s. cond (k == s) a 0) n ≡ a
 sum_one k a zero less = absurd (omega (arith, less))
 sum_one k a (suc n) less = elim (cases_eq k n) [
   | inl same ↦ omega (
@@ -58,7 +62,7 @@ sum_one k a (suc n) less = elim (cases_eq k n) [
 ]
 
 -- a sum that has one part alone
-sum_only : (f : ℕ → ℕ) (o n : ℕ) → ((s : ℕ) → s < n → (s ≡ o → ⊥) → f s ≡ 0) → sum_below f n ≤ f o
+pub sum_only : (f : ℕ → ℕ) (o n : ℕ) → ((s : ℕ) → s < n → (s ≡ o → ⊥) → f s ≡ 0) → sum_below f n ≤ f o
 sum_only f o zero h = omega arith
 sum_only f o (suc n) h = elim (cases_eq n o) [
   | inl same ↦ omega (
@@ -71,23 +75,22 @@ sum_only f o (suc n) h = elim (cases_eq n o) [
 ]
 
 -- messages of threads below n, by sender
-by_sender : (w : What) (n : ℕ) (ls : List Letter) → ((s : ℕ) → n ≤ s → sent_by (λ l. l.tag) s ls ≡ []) → count_run w ls ≡ sum_below (λ s. count_run w (sent_by (λ l. l.tag) s ls)) n
-by_sender w n [] h = sym (sum_zero n)
-by_sender w n (x ∷ xs) h =
+pub by_sender : (f : Letter → ℕ) (n : ℕ) (ls : List Letter) → ((s : ℕ) → n ≤ s → sent_by (λ l. l.tag) s ls ≡ []) → sum_letters f ls ≡ sum_below (λ s. sum_letters f (sent_by (λ l. l.tag) s ls)) n
+by_sender f n [] h = sym (sum_zero n)
+by_sender f n (x ∷ xs) h =
     omega (
       arith,
-      by_sender w n xs (λ s le. rest s (x.tag.sender == s) (h s le)),
-      sum_same (λ s. count_run w (sent_by (λ l. l.tag) s (x ∷ xs))) (λ s. cond (x.tag.sender == s) (cond (is_same_token w x.tag.what) 1 0) 0 + count_run w (sent_by (λ l. l.tag) s xs)) n
-          (λ s b. one s (x.tag.sender == s)),
-      sum_both (λ s. cond (x.tag.sender == s) (cond (is_same_token w x.tag.what) 1 0) 0) (λ s. count_run w (sent_by (λ l. l.tag) s xs)) n,
-      sum_one x.tag.sender (cond (is_same_token w x.tag.what) 1 0) n below,
+      by_sender f n xs (λ s le. rest s (x.tag.sender == s) (h s le)),
+      sum_same (λ s. sum_letters f (sent_by (λ l. l.tag) s (x ∷ xs))) (λ s. cond (x.tag.sender == s) (f x) 0 + sum_letters f (sent_by (λ l. l.tag) s xs)) n (λ s b. one s (x.tag.sender == s)),
+      sum_both (λ s. cond (x.tag.sender == s) (f x) 0) (λ s. sum_letters f (sent_by (λ l. l.tag) s xs)) n,
+      sum_one x.tag.sender (f x) n below,
     )
   where
     rest : (s : ℕ) (b : Bool) → (if b then x ∷ sent_by (λ l. l.tag) s xs else sent_by (λ l. l.tag) s xs) ≡ [] → sent_by (λ l. l.tag) s xs ≡ []
     rest s true e = cc
     rest s false e = e
 
-    one : (s : ℕ) (b : Bool) → count_run w (if b then x ∷ sent_by (λ l. l.tag) s xs else sent_by (λ l. l.tag) s xs) ≡ cond b (cond (is_same_token w x.tag.what) 1 0) 0 + count_run w (sent_by (λ l. l.tag) s xs)
+    one : (s : ℕ) (b : Bool) → sum_letters f (if b then x ∷ sent_by (λ l. l.tag) s xs else sent_by (λ l. l.tag) s xs) ≡ cond b (f x) 0 + sum_letters f (sent_by (λ l. l.tag) s xs)
     one s true = refl
     one s false = omega arith
 
@@ -110,7 +113,7 @@ run_to u w (p ∷ ps) = at (p.0 == u) (run_to u w ps)
     at false e = omega (arith, e)
 
 -- the last messages are no tokens
-last_none : (s : Script) (t : ℕ) (w : What) → NoneIs w (sent_last s t)
+pub last_none : (s : Script) (t : ℕ) (w : What) → NoneIs w (sent_last s t)
 last_none s t w = at (is_client s t) (t == 0)
   where
     stops : (ds : List ℕ) → NoneIs w (map (λ d. (owner_of s d, what.Stop)) ds)
@@ -265,7 +268,7 @@ module _ (r : Record) (logs : List Log) (whole : IsWholeRun r logs) (w : What) w
         ap length (goes_is t l.0 l.1),
         runs_are t l.0 l.1,
         count_steps (is_same_token w) l.0,
-        few_of r.script t l.0 w n_of tok less [] (steps l.0) l.0.sends (ended r logs whole t l.0 l.1).sends.at_steps,
+        few_out r.script t l.0 (runs (is_same_token w)) n_of w (run_few r.script t l.0 w n_of) [] (steps l.0) l.0.sends (ended r logs whole t l.0 l.1).sends.at_steps,
       )
 
   pub up : Token w → (t : ℕ) → t < n_of → AllByRecursion (λ u. t < u) (goes_of t)
@@ -290,7 +293,7 @@ module _ (r : Record) (logs : List Log) (whole : IsWholeRun r logs) (w : What) w
   pub came : (u : ℕ) → u < n_of → runs_at u ≡ sum_below (λ s. count_at u (starts_of s)) n_of + sum_below (λ s. count_at u (goes_of s)) n_of
   came u less =
       let within : u < length logs = omega (arith, less, log_count r logs whole) in
-      by_sender w n_of (run_by logs u) (λ s le. whole.rings.run_is_sent u s within ∙ ap (to_thread u) (none_sent logs s (omega (arith, le, log_count r logs whole))))
+      by_sender (λ x. cond (is_same_token w x.tag.what) 1 0) n_of (run_by logs u) (λ s le. whole.rings.run_is_sent u s within ∙ ap (to_thread u) (none_sent logs s (omega (arith, le, log_count r logs whole))))
       ∙ sum_same (λ s. count_run w (sent_by (λ l. l.tag) s (run_by logs u))) (λ s. count_at u (starts_of s) + count_at u (goes_of s)) n_of
       (λ s b. ap (count_run w) (whole.rings.run_is_sent u s within) ∙ run_to u w (sent_by_thread logs s) ∙ sends_count u s less b)
       ∙ sum_both (λ s. count_at u (starts_of s)) (λ s. count_at u (goes_of s)) n_of

@@ -21,7 +21,7 @@ use Rattle.lw_whole.specs.Logs.{Log, addressed, load_at, steps}
 use Rattle.lw_whole.specs.Tokens.{GoesOn, empty_load, load_behind}
 use Rattle.lw_whole.specs.Sends.{Sets, SentByDid, SentByRan, SentBy, SentAlong}
 use Rattle.lw_whole.specs.Lines.{is_a_did}
-use Rattle.lw_whole.proofs.TokenCounts.{Either, same_is, NoneIs, not_completion, starts, dests, D_of}
+use Rattle.lw_whole.proofs.TokenCounts.{Either, same_is, NoneIs, not_completion, starts, dests, outs, D_of}
 
 -- ---- what a token's step sends
 
@@ -92,11 +92,11 @@ count_put_in p x (y ∷ xs) = at (nat_le (at_of x) (at_of y)) (count_put_in p x 
     at true e = refl
     at false e = omega (arith, e)
 
-count_in_order : (p : Step → Bool) (xs : List Step) → count_of p (in_order xs) ≡ count_of p xs
+pub count_in_order : (p : Step → Bool) (xs : List Step) → count_of p (in_order xs) ≡ count_of p xs
 count_in_order p [] = refl
 count_in_order p (x ∷ xs) = omega (arith, count_put_in p x (in_order xs), count_in_order p xs)
 
-count_of-append : (p : Step → Bool) (xs ys : List Step) → count_of p (xs ++ ys) ≡ count_of p xs + count_of p ys
+pub count_of-append : (p : Step → Bool) (xs ys : List Step) → count_of p (xs ++ ys) ≡ count_of p xs + count_of p ys
 count_of-append p [] ys = omega arith
 count_of-append p (x ∷ xs) ys = omega (arith, count_of-append p xs ys)
 
@@ -135,23 +135,35 @@ no_lines_of n (m ∷ ms) = omega (arith, no_lines_of (n + 1) ms)
 pub count_lines : (l : Log) → count_of is_a_did (steps l) ≡ length l.lines.did
 count_lines l = omega (arith, count_parts is_a_did l, lines_of 0 l.lines.did, no_lines_of 0 l.lines.ran)
 
-module _ (s : Script) (t : ℕ) (l : Log) (w : What) (n : ℕ) (tok : Token w) (less : t < n) where
-  -- each run sends it on once at most, to a thread above
-  pub few_of : (past rest : List Step) (sends : List (List (ℕ × Letter))) → SentAlong s t l (with_past past rest) sends → length (D_of s t l w n (with_past past rest) sends) ≤ count_of (runs (is_same_token w)) rest
-  few_of past [] sends h = omega arith
-  few_of past (x ∷ rest) [] h = absurd h
-  few_of past (x ∷ rest) (now ∷ sends) h =
-      omega (arith, length_append (cond (runs (is_same_token w) x) (dests n w now) []) (D_of s t l w n (with_past (x ∷ past) rest) sends), few_of (x ∷ past) rest sends h.1, here x h.0)
-    where
-      here : (x : Step) → SentBy s t l past x now → length (cond (runs (is_same_token w) x) (dests n w now) []) ≤ cond (runs (is_same_token w) x) 1 0
-      here (step.Did i d) h = omega arith
-      here (step.Called i d) h = omega arith
-      here (step.Ran i m) h = at (is_same_token w m.what) refl
-        where
-          at : (b : Bool) → is_same_token w m.what ≡ b → length (cond b (dests n w now) []) ≤ cond b 1 0
-          at true e = goes_few s w n (t + 1) _ now (ran_goes s t l w past i m now e h)
-          at false e = omega arith
+-- a step that starts or runs the token sends it once at most
+pub run_few : (s : Script) (t : ℕ) (l : Log) (w : What) (n : ℕ) (past : List Step) (x : Step) (now : List (ℕ × Letter)) → SentBy s t l past x now
+    → length (cond (runs (is_same_token w) x) (dests n w now) []) ≤ cond (runs (is_same_token w) x) 1 0
+run_few s t l w n past (step.Did i d) now h = omega arith
+run_few s t l w n past (step.Called i d) now h = omega arith
+run_few s t l w n past (step.Ran i m) now h = at (is_same_token w m.what) refl
+  where
+    at : (b : Bool) → is_same_token w m.what ≡ b → length (cond b (dests n w now) []) ≤ cond b 1 0
+    at true e = goes_few s w n (t + 1) _ now (ran_goes s t l w past i m now e h)
+    at false e = omega arith
 
+pub start_few : (s : Script) (t : ℕ) (l : Log) (w : What) (n : ℕ) (past : List Step) (x : Step) (now : List (ℕ × Letter)) → SentBy s t l past x now
+    → length (cond (starts s t w x) (dests n w now) []) ≤ cond (starts s t w x) 1 0
+start_few s t l w n past x now h = at (starts s t w x) refl
+  where
+    at : (b : Bool) → starts s t w x ≡ b → length (cond b (dests n w now) []) ≤ cond b 1 0
+    at true e = goes_few s w n 0 _ now (started_goes s t l w past x now e h)
+    at false e = omega arith
+
+module _ (s : Script) (t : ℕ) (l : Log) (p : Step → Bool) (n : ℕ) (w : What)
+    (few : (past : List Step) (x : Step) (now : List (ℕ × Letter)) → SentBy s t l past x now → length (cond (p x) (dests n w now) []) ≤ cond (p x) 1 0) where
+  pub few_out : (past rest : List Step) (sends : List (List (ℕ × Letter))) → SentAlong s t l (with_past past rest) sends → length (outs p n w (with_past past rest) sends) ≤ count_of p rest
+  few_out past [] sends h = omega arith
+  few_out past (x ∷ rest) [] h = absurd h
+  few_out past (x ∷ rest) (now ∷ sends) h =
+      omega (arith, length_append (cond (p x) (dests n w now) []) (outs p n w (with_past (x ∷ past) rest) sends), few_out (x ∷ past) rest sends h.1, few past x now h.0)
+
+module _ (s : Script) (t : ℕ) (l : Log) (w : What) (n : ℕ) (tok : Token w) (less : t < n) where
+  -- each run sends it on to a thread above
   pub up_of : (past rest : List Step) (sends : List (List (ℕ × Letter))) → SentAlong s t l (with_past past rest) sends → AllByRecursion (λ u. t < u) (D_of s t l w n (with_past past rest) sends)
   up_of past [] sends h = tt
   up_of past (x ∷ rest) [] h = absurd h

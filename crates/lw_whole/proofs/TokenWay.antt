@@ -71,7 +71,7 @@ completion_tells what.Stop v o e = cc
 completion_tells (what.Arrive a b) v o e = cc
 completion_tells (what.Order a b c) v o e = cc
 
-last_back : (s : Script) (t : ℕ) → NoneBack (sent_last s t)
+pub last_back : (s : Script) (t : ℕ) → NoneBack (sent_last s t)
 last_back s t = at (is_client s t) (t == 0)
   where
     stops : (ds : List ℕ) → NoneBack (map (λ d. (owner_of s d, what.Stop)) ds)
@@ -141,8 +141,8 @@ module _ (r : Record) (logs : List Log) (whole : IsWholeRun r logs) where
       let is = back_is_back w tok in
       let ran : Among (IsLetter (back w)) b.log.ran = counted_among (completes (op_at r.script b.thread (op_of w)) (op_of w)) (back w) (λ v e. completes_back b.thread (op_of w) (op_at r.script b.thread (op_of w)) w v b.token e) b.log.ran
       (omega (arith, b.completed, count_steps (completes (op_at r.script b.thread (op_of w)) (op_of w)) b.log, ap (count_if (completes (op_at r.script b.thread (op_of w)) (op_of w))) (ended r logs whole b.thread b.log b.of_thread).tags)) in
-      let by = of_some_sender (back w) b.log.ran ran in
-      let sent : Among (IsSend b.thread (back w)) (sent_by_thread logs by.0) = sent_to b.thread (back w) (sent_by_thread logs by.0)
+      let by = of_some_sender (IsLetter (back w)) b.log.ran ran in
+      let sent : Among (IsSend b.thread (back w)) (sent_by_thread logs by.0) = sent_to b.thread (IsLetter (back w)) (sent_by_thread logs by.0)
       (subst (Among (IsLetter (back w))) (ap (sent_by (λ l. l.tag) by.0) (sym (run_at logs b.thread b.log b.of_thread)) ∙ whole.rings.run_is_sent b.thread by.0 (omega (arith, b.within, log_count r logs whole))) by.1) in
       at b is.0 is.1 by.0 sent
     where

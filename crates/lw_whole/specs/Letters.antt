@@ -1,5 +1,5 @@
 -- Messages as plain data: a letter has its message's tag and what the message carries.
-use Rattle.std.specs.Prelude.{ℕ, List}
+use Rattle.std.specs.Prelude.{ℕ, List, []}
 use Rattle.lw_base.specs.declared.message.Tag.{Tag}
 use Rattle.lw_base.specs.declared.message.Mark.{Mark}
 use Rattle.lw_model.specs.declared.record.Replied.{Replied}
@@ -26,3 +26,12 @@ pub data Load : Type 0 where
 pub record Letter : Type 0 where
   pub tag : Tag
   pub load : Load
+
+-- the marks and the threads that a message carries
+abbrev pub marks_in : Load → List Mark
+marks_in (marked ms) = ms
+marks_in _ = []
+
+abbrev pub threads_in : Load → List ℕ
+threads_in (reached ts) = ts
+threads_in _ = []

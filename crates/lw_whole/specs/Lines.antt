@@ -1,7 +1,6 @@
 -- What a thread lists, by its own steps alone.
-use Rattle.std.specs.Prelude.{ℕ, ◌==◌, nat_lt, nat_le, Bool, true, false, cond, ◌&&◌, ◌||◌, not, List, [], ◌∷◌, length, take, reverse, Option, Some, None, option_map, is_none, count_by}
+use Rattle.std.specs.Prelude.{ℕ, ◌==◌, nat_lt, nat_le, Bool, true, false, cond, ◌&&◌, ◌||◌, not, List, [], ◌∷◌, length, take, drop, reverse, Option, Some, None, option_map, is_none, count_by}
 use Rattle.std.specs.List.{list_all, list_any}
-use Rattle.lw_base.specs.declared.message.Mark.{Mark}
 use Rattle.lw_base.specs.declared.message.What.TheVariants as what
 use Rattle.lw_model.specs.declared.script.Script.{Script}
 use Rattle.lw_model.specs.declared.step.Step.{Step}
@@ -11,12 +10,12 @@ use Rattle.lw_model.specs.declared.record.Reply.{Reply}
 use Rattle.lw_model.specs.declared.record.Seen.{Seen}
 use Rattle.lw_model.specs.declared.record.SeenBy.TheVariants as by
 use Rattle.lw_model.specs.Threads.{ops_of, op_at, is_on, clients}
-use Rattle.lw_model.specs.OwnOrder.{own_order, with_past}
+use Rattle.lw_model.specs.OwnOrder.{with_past}
 use Rattle.lw_model.specs.Holding.{is_started, says, held}
 use Rattle.lw_model.specs.Answers.{answer_fits, depth_fits, completes, unregister_fits, is_done_of, at_fits}
 use Rattle.lw_model.specs.Devices.{is_began, needs_open, tells_shut}
-use Rattle.lw_whole.specs.Letters.{Letter, Load, marked, reached}
-use Rattle.lw_whole.specs.Logs.{Log, without_callbacks}
+use Rattle.lw_whole.specs.Letters.{Letter, marks_in, threads_in}
+use Rattle.lw_whole.specs.Logs.{Log, steps}
 use Rattle.lw_whole.specs.Sends.{answer_in}
 
 -- each of these numbers is not below the one before it, and at most `most`
@@ -53,30 +52,30 @@ app_line_fits s past _ = true
 abbrev pub stays_shut : Script → ℕ → ℕ → List Step → Step → Bool
 stays_shut s t d past x = not (says (is_on s t d) needs_open x) || not (list_any (says (is_on s t d) tells_shut) past)
 
--- the steps that stood when a callback was made: so many `did` lines, and the messages run before
-abbrev pub steps_then : Log → ℕ → Called → List Step
-steps_then l j x = own_order (record (without_callbacks l.lines) { did = take j l.lines.did; ran = take x.at l.lines.ran })
+-- a step that was made before a callback that came when `a` messages had been run, and one that was made behind it
+abbrev pub made_before : ℕ → Step → Bool
+made_before a (step.Did i x) = nat_le x.at a
+made_before a (step.Called i x) = true
+made_before a (step.Ran i m) = nat_lt i a
 
--- a callback came where the thread had begun, and held no channel of the device
+abbrev pub made_behind : ℕ → Step → Bool
+made_behind a (step.Did i x) = nat_le a x.at
+made_behind a (step.Called i x) = true
+made_behind a (step.Ran i m) = nat_le a i
+
+-- a callback came behind the first k steps, where the thread had begun and held no channel of the device
 abbrev pub callback_stood : Script → ℕ → Log → ℕ → Called → Bool
-callback_stood s t l j x =
-    list_all (λ y. nat_le y.at x.at) (take j l.lines.did)
-    && list_any (says (is_on s t x.device) is_began) (steps_then l j x)
-    && is_none (held (is_on s t x.device) x.device (reverse (steps_then l j x)))
+callback_stood s t l k x =
+    list_all (made_before x.at) (take k (steps l))
+    && list_all (made_behind x.at) (drop k (steps l))
+    && list_any (says (is_on s t x.device) is_began) (take k (steps l))
+    && is_none (held (is_on s t x.device) x.device (reverse (take k (steps l))))
 
 -- the reply that a message brought
 abbrev pub reply_in : Letter → Option Reply
 reply_in x = elim x.tag.what [ what.Reply k ↦ option_map (λ a. record { op = k; answer = a }) (answer_in x.load) | _ ↦ None ]
 
 -- the results that a completion brought
-abbrev pub marks_in : Load → List Mark
-marks_in (marked ms) = ms
-marks_in _ = []
-
-abbrev pub threads_in : Load → List ℕ
-threads_in (reached ts) = ts
-threads_in _ = []
-
 abbrev pub results_in : Letter → Option Seen
 results_in x = elim x.tag.what [
   | what.Visited k ↦ Some (record { op = k; results = by.Visit (marks_in x.load) })

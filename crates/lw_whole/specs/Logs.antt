@@ -15,7 +15,7 @@ pub record Log : Type 0 where
   -- what it sent, each letter with its receiver: at each of its steps but the callbacks, and then at its end
   pub sends : List (List (ℕ × Letter))
   pub last : List (ℕ × Letter)
-  -- how many `did` lines stood when each callback was made
+  -- how many of its steps had been made when each callback came
   pub stood : List ℕ
   -- what its own calls left in its row, and its row at the end: a client's went with its Done; the app took those in
   pub own : List Note

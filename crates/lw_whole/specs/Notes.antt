@@ -2,6 +2,7 @@
 use Rattle.std.specs.Prelude.{ℕ, ◌+◌, ◌≡◌, ◌<◌, ◌≤◌, ◌==◌, Bool, true, cond, ◌&&◌, ◌||◌, not, if◌then◌else◌, List, [], ◌∷◌, ◌++◌, length, map, take, count_by, filter_map, Option, Some, None, unwrap_or, slice_get, Any}
 use Rattle.std.specs.List.{list_all, list_any, AllByRecursion, enumerate_from}
 use Rattle.lw_base.specs.Totals.{total}
+use Rattle.lw_base.specs.declared.message.What.TheVariants as what
 use Rattle.lw_model.specs.declared.script.Script.{Script}
 use Rattle.lw_model.specs.declared.step.Step.{Step}
 use Rattle.lw_model.specs.declared.step.Step.TheVariants as step
@@ -10,7 +11,7 @@ use Rattle.lw_base.specs.declared.ends.DeviceEnd.{DeviceEnd}
 use Rattle.lw_model.specs.Threads.{is_on}
 use Rattle.lw_model.specs.Holding.{says, ordinal_given}
 use Rattle.lw_model.specs.Devices.{is_began, is_refusal}
-use Rattle.lw_whole.specs.Letters.{Letter, row, Note}
+use Rattle.lw_whole.specs.Letters.{Letter, Load, row, Note}
 use Rattle.lw_whole.specs.Logs.{Log, steps}
 
 -- a row that was never used; and one that was handed away
@@ -34,10 +35,8 @@ pub record NoteFits (s : Script) (t d : ℕ) (l : Log) (n : Note) : Type 0 where
   pub ordinals : n.ordinals ≡ filter_map (ordinal_given (is_on s t d)) (steps l)
   pub found : list_any (says (is_on s t d) is_refusal) (steps l) ≡ true → 1 ≤ n.found
   pub begun : filter_map (count_begun (is_on s t d)) (steps l) ≡ begun_in n
-  pub counts : n.begun ≡ 0 → n.count ≡ 0
   pub began_by : 1 ≤ n.begun → n.began_by ≡ t
   pub fired : count_by (λ x. x.device == d) l.lines.called ≡ n.fired
-  pub only_begun : n.fired ≤ n.begun
 
 -- a note a device
 pub record RowFits (s : Script) (t : ℕ) (l : Log) : Type 0 where
@@ -65,9 +64,13 @@ abbrev pub joined : List Note → List (List Note) → List Note
 joined ns [] = ns
 joined ns (ms ∷ rest) = joined (both_rows ns ms) rest
 
--- the row that a message brought
+-- the row that a Done brought
+abbrev pub row_of : Load → Option (List Note)
+row_of (row ns) = Some ns
+row_of _ = None
+
 abbrev pub row_in : Letter → Option (List Note)
-row_in x = elim x.load [ row ns ↦ Some ns | _ ↦ None ]
+row_in x = elim x.tag.what [ what.Done ↦ row_of x.load | _ ↦ None ]
 
 abbrev pub rows_in : List Letter → List (List Note)
 rows_in ran = filter_map row_in ran
@@ -76,7 +79,7 @@ rows_in ran = filter_map row_in ran
 abbrev pub knows_open : Note → Bool
 knows_open n = n.found == 0 && n.begun == 0
 
--- the app took in the row of each message that brought one; where it began to unregister a device, no row that it had taken
+-- the app took in the row of each Done that brought one; where it began to unregister a device, no row that it had taken
 -- in had found that device shut, or had begun
 pub record TookIn (l : Log) : Type 0 where
   pub joined : l.row ≡ joined l.own (rows_in l.ran)
@@ -92,7 +95,6 @@ pub record DeviceSettled (ns : List Note) (e : DeviceEnd) : Type 0 where
   pub once : (k : ℕ) → k < e.given → total (λ n. times k n.ordinals) ns ≡ 1
   pub count : total (λ n. length n.ordinals) ns ≡ e.given
   pub began : Any (λ n. (n.begun ≡ 1) × (n.count ≡ e.given) × (n.began_by ≡ e.thread)) ns
-  pub alone : total (λ n. n.begun) ns ≡ 1
   pub fired : total (λ n. n.fired) ns ≡ e.callbacks
   pub one_callback : e.callbacks ≡ 1
 

@@ -1,9 +1,12 @@
 -- What is known of a thread that has ended, by its role.
-use Rattle.std.specs.Prelude.{ℕ, ◌+◌, ◌≡◌, ◌==◌, true, false, [], length, map, zip, filter_map}
-use Rattle.std.specs.List.{list_all, AllByRecursion}
+use Rattle.std.specs.Prelude.{ℕ, ◌+◌, ◌≡◌, ◌==◌, true, false, List, [], length, map, zip, filter_map, None}
+use Rattle.std.specs.List.{list_all, AllByRecursion, enumerate_from}
 use Rattle.lw_model.specs.declared.script.Script.{Script}
-use Rattle.lw_model.specs.Threads.{ops_of, is_client, images}
+use Rattle.lw_model.specs.ScriptRules.{rule_broken}
+use Rattle.lw_model.specs.Printable.{has_role}
+use Rattle.lw_model.specs.Threads.{thread_count, ops_of, is_client, images}
 use Rattle.lw_whole.specs.Logs.{Log, steps_with_past}
+use Rattle.lw_whole.specs.Rings.{RingsSettled}
 use Rattle.lw_whole.specs.Sends.{Sends}
 use Rattle.lw_whole.specs.Notes.{RowFits, TookIn}
 use Rattle.lw_whole.specs.Lines.{ats_ascend, client_line_fits, app_line_fits, stays_shut, callback_stood, reply_in, results_in}
@@ -25,7 +28,6 @@ pub record AppEnded (s : Script) (l : Log) : Type 0 where
 -- an owner lists nothing and keeps its row
 pub record OwnerEnded (l : Log) : Type 0 where
   pub did : l.lines.did ≡ []
-  pub called : l.lines.called ≡ []
   pub row : l.row ≡ l.own
 
 abbrev pub EndedAs : Script → ℕ → Log → Type 0
@@ -42,3 +44,17 @@ pub record Ended (s : Script) (t : ℕ) (l : Log) : Type 0 where
   pub stays_shut : AllByRecursion (λ d. list_all (λ p. stays_shut s t d p.0 p.1) (steps_with_past l) ≡ true) (images s)
   pub own_row : RowFits s t l
   pub role : EndedAs s t l
+
+-- what a thread is, and that threads other than clients list no reply and no results
+pub record HasRole (s : Script) (t : ℕ) (l : Log) : Type 0 where
+  pub role : has_role (length s.clients) t l.lines.role ≡ true
+  pub replies : is_client s t ≡ false → l.lines.replies ≡ []
+  pub seen : is_client s t ≡ false → l.lines.seen ≡ []
+
+-- all threads of a run of an accepted script, once they ended and their rings are settled
+pub record AllEnded (s : Script) (logs : List Log) : Type 0 where
+  pub accepted : rule_broken s ≡ None
+  pub count : length logs ≡ thread_count s
+  pub roles : AllByRecursion (λ p. HasRole s p.0 p.1) (enumerate_from 0 logs)
+  pub each : AllByRecursion (λ p. Ended s p.0 p.1) (enumerate_from 0 logs)
+  pub rings : RingsSettled logs

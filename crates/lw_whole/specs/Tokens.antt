@@ -9,7 +9,7 @@ use Rattle.lw_model.specs.declared.step.Step.{Step}
 use Rattle.lw_model.specs.Threads.{thread_count, is_on}
 use Rattle.lw_model.specs.Holding.{held, submitted}
 use Rattle.lw_model.specs.Sent.{must_run, completion}
-use Rattle.lw_whole.specs.Letters.{Letter, Load, nothing, marked, reached}
+use Rattle.lw_whole.specs.Letters.{Letter, Load, nothing, marked, reached, marks_in, threads_in}
 use Rattle.lw_whole.specs.Logs.{addressed}
 
 -- what a token carries when it sets out
@@ -24,8 +24,8 @@ own_mark s t past d = option_to_list (option_map (λ n. record { thread = t; sub
 
 -- what a token carries behind thread t, which ran it
 abbrev pub load_behind : Script → ℕ → List Step → What → Load → Load
-load_behind s t past (what.Visit o k d) (marked ms) = marked (ms ++ own_mark s t past d)
-load_behind s t past (what.Cast o k) (reached ts) = reached (ts ++ t ∷ [])
+load_behind s t past (what.Visit o k d) x = marked (marks_in x ++ own_mark s t past d)
+load_behind s t past (what.Cast o k) x = reached (threads_in x ++ t ∷ [])
 load_behind s t past _ x = x
 
 -- a token may be sent past each thread from `from` up to and without `to`: clients other than its origin, which had exited

@@ -179,7 +179,7 @@ fn receive<R: Wait>(rt: &R, alloc: Global, mut recv: RecvEnd<Note>) -> Result<Fo
 fn try_close(recv: &mut RecvEnd<Note>) -> bool
     requires { IsSome recv.old.latch × (recv.old.closed ≡ 0) }
     ensures latch { IsSome recv.new.latch }
-    ensures open { OnFalse result (recv.new.closed ≡ 0) }
+    ensures not_closed { OnFalse result (recv.new.closed ≡ 0) }
 {
     if recv.taken() < CLOSE_FROM {
         return false;

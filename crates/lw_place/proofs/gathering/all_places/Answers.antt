@@ -12,15 +12,16 @@ loop-thread-preserved c =
     let thread = c.loop-thread.thread in
     let old = c.loop-thread.places.items in
     let new = c.push.new.self.items in
-    let is = c.in_ok-push.ensures.items in (
-      c.place.ensures.same ∙ i.0,
-      (let n = ap length is ∙ length-append old (c.place.result ∷ []) in let m = i.1 in omega arith),
-      subst (λ (e : BundleEnd). (t : ℕ) (d : Place) → t < thread + 1 → StandsAt e.view.stands t (slice_index_or new t d)) (sym c.place.ensures.same)
-          (one_more_place c.loop-thread.whole.view.stands old new thread c.place.result is i.1 i.2 c.place.ensures.its),
-    )
+    let is = c.in_ok-push.ensures.items in
+    record {
+      same = c.place.ensures.same ∙ i.same;
+      count = (let n = ap length is ∙ length-append old (c.place.result ∷ []) in let m = i.count in omega arith);
+      each = subst (λ (e : BundleEnd). (t : ℕ) (d : Place) → t < thread + 1 → StandsAt e.view.stands t (slice_index_or new t d)) (sym c.place.ensures.same)
+          (one_more_place c.loop-thread.whole.view.stands old new thread c.place.result is i.count i.each c.place.ensures.its);
+    }
 
 pub returns-clause-each : goal.returns-clause-each
 returns-clause-each c =
     let i = c.loop-thread.invariant in
-    λ t d l. subst (λ (e : BundleEnd). StandsAt e.view.stands t (slice_index_or c.loop-thread.places.items t d)) i.0
-    (i.2 t d (let end = c.loop-thread-test.false in let is = c.threads-thread-end.ensures in omega arith))
+    λ t d l. subst (λ (e : BundleEnd). StandsAt e.view.stands t (slice_index_or c.loop-thread.places.items t d)) i.same
+    (i.each t d (let end = c.loop-thread-test.false in let is = c.threads-thread-end.ensures in omega arith))

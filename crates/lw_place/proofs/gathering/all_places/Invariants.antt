@@ -5,7 +5,8 @@ use Rattle.lw_place.specs.declared.place.Place.{Place}
 use Rattle.lw_place.proofs.gathering.all_places.Given as goal
 
 abbrev pub invariant-loop-thread : goal.invariant-loop-thread
-invariant-loop-thread l =
-    (l.whole ≡ l.initial.whole)
-    × (length l.places.items ≡ l.thread)
-    × ((t : ℕ) (d : Place) → t < l.thread → StandsAt l.whole.view.stands t (slice_index_or l.places.items t d))
+invariant-loop-thread l = record {
+  same : l.whole ≡ l.initial.whole;
+  count : length l.places.items ≡ l.thread;
+  each : (t : ℕ) (d : Place) → t < l.thread → StandsAt l.whole.view.stands t (slice_index_or l.places.items t d);
+}

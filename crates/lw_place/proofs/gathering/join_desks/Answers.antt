@@ -14,15 +14,16 @@ loop-desk-preserved c =
     let b = c.into_bundle.ensures in
     let t = c.take_in.ensures in
     let first = c.into_bundle-whole.result in
-    let rest = into_iter_items c.next.new.self in (
-      ap (λ (e : BundleEnd). places_of e.table e.view) t ∙ i.0,
-      (let a = ap (λ (e : BundleEnd). e.view.desks) t in let z = b.1 in let n = ap length s in let o = i.1 in omega arith),
-      (let a = ap (λ (e : BundleEnd). e.view.retired) t in let z = ap (λ (d : DeskEnd). d.retired) b.0 in let n = ap all_retired s in let o = i.2 in omega arith),
-      (let a = ap (λ (e : BundleEnd). e.view.halted) t in let z = ap (λ (d : DeskEnd). d.halted) b.0 in let n = ap all_halted s in let o = i.3 in omega arith),
-      (let a = ap (λ (e : BundleEnd). e.view.done_seen) t in let z = ap (λ (d : DeskEnd). d.done_seen) b.0 in let n = ap most_seen s in let o = i.4 in omega arith),
-      ap (λ (e : BundleEnd). e.view.stands) t ∙ ap (λ (xs : List Stand). xs ++ c.into_bundle.result.view.stands) i.5 ∙ b.2,
-      All-rest (λ (d : DeskEnd). d.places ≡ places_of first.table first.view) c.in-Some-desk.desk rest (into_iter_items c.loop-desk.desk-iterator) s i.6,
-    )
+    let rest = into_iter_items c.next.new.self in
+    record {
+      places = ap (λ (e : BundleEnd). places_of e.table e.view) t ∙ i.places;
+      desks = (let a = ap (λ (e : BundleEnd). e.view.desks) t in let z = b.one_desk in let n = ap length s in let o = i.desks in omega arith);
+      retired = (let a = ap (λ (e : BundleEnd). e.view.retired) t in let z = ap (λ (d : DeskEnd). d.retired) b.desk in let n = ap all_retired s in let o = i.retired in omega arith);
+      halted = (let a = ap (λ (e : BundleEnd). e.view.halted) t in let z = ap (λ (d : DeskEnd). d.halted) b.desk in let n = ap all_halted s in let o = i.halted in omega arith);
+      seen = (let a = ap (λ (e : BundleEnd). e.view.done_seen) t in let z = ap (λ (d : DeskEnd). d.done_seen) b.desk in let n = ap most_seen s in let o = i.seen in omega arith);
+      stands = ap (λ (e : BundleEnd). e.view.stands) t ∙ ap (λ (xs : List Stand). xs ++ c.into_bundle.result.view.stands) i.stands ∙ b.no_threads;
+      of = All-rest (λ (d : DeskEnd). d.places ≡ places_of first.table first.view) c.in-Some-desk.desk rest (into_iter_items c.loop-desk.desk-iterator) s i.of;
+    }
 
 pub returns-clause-holds : goal.returns-clause-holds
 returns-clause-holds c =
@@ -37,9 +38,9 @@ returns-clause-holds c =
     let none : rest ≡ [] = nil_from_length rest end in
     record {
       of = refl;
-      desks = (let a = i.1 in let b = f.1 in let n = ap length is ∙ length-append others (first ∷ []) in let m = ap length all in omega arith);
-      retired = (let a = i.2 in let b = ap (λ (d : DeskEnd). d.retired) f.0 in let n = ap all_retired is ∙ total_snoc (λ (d : DeskEnd). d.retired) others first in let m = ap all_retired all in let z = ap all_retired none in omega arith);
-      halted = (let a = i.3 in let b = ap (λ (d : DeskEnd). d.halted) f.0 in let n = ap all_halted is ∙ total_snoc (λ (d : DeskEnd). d.halted) others first in let m = ap all_halted all in let z = ap all_halted none in omega arith);
-      seen = (let a = i.4 in let b = ap (λ (d : DeskEnd). d.done_seen) f.0 in let n = ap most_seen is ∙ most_snoc others first in let m = ap most_seen all in let z = ap most_seen none in omega arith);
-      stands = i.5;
+      desks = (let a = i.desks in let b = f.one_desk in let n = ap length is ∙ length-append others (first ∷ []) in let m = ap length all in omega arith);
+      retired = (let a = i.retired in let b = ap (λ (d : DeskEnd). d.retired) f.desk in let n = ap all_retired is ∙ total_snoc (λ (d : DeskEnd). d.retired) others first in let m = ap all_retired all in let z = ap all_retired none in omega arith);
+      halted = (let a = i.halted in let b = ap (λ (d : DeskEnd). d.halted) f.desk in let n = ap all_halted is ∙ total_snoc (λ (d : DeskEnd). d.halted) others first in let m = ap all_halted all in let z = ap all_halted none in omega arith);
+      seen = (let a = i.seen in let b = ap (λ (d : DeskEnd). d.done_seen) f.desk in let n = ap most_seen is ∙ most_snoc others first in let m = ap most_seen all in let z = ap most_seen none in omega arith);
+      stands = i.stands;
     }

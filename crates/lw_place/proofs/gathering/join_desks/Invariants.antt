@@ -9,10 +9,12 @@ invariant-loop-desk l =
     let first = l.initial.whole in
     let all = into_iter_items l.initial.desk-iterator in
     let rest = into_iter_items l.desk-iterator in
-    (places_of l.whole.table l.whole.view ≡ places_of first.table first.view)
-    × (l.whole.view.desks + length rest ≡ first.view.desks + length all)
-    × (l.whole.view.retired + all_retired rest ≡ first.view.retired + all_retired all)
-    × (l.whole.view.halted + all_halted rest ≡ first.view.halted + all_halted all)
-    × (max l.whole.view.done_seen (most_seen rest) ≡ max first.view.done_seen (most_seen all))
-    × (l.whole.view.stands ≡ [])
-    × All (λ (d : DeskEnd). d.places ≡ places_of first.table first.view) rest
+    record {
+      places : places_of l.whole.table l.whole.view ≡ places_of first.table first.view;
+      desks : l.whole.view.desks + length rest ≡ first.view.desks + length all;
+      retired : l.whole.view.retired + all_retired rest ≡ first.view.retired + all_retired all;
+      halted : l.whole.view.halted + all_halted rest ≡ first.view.halted + all_halted all;
+      seen : max l.whole.view.done_seen (most_seen rest) ≡ max first.view.done_seen (most_seen all);
+      stands : l.whole.view.stands ≡ [];
+      of : All (λ (d : DeskEnd). d.places ≡ places_of first.table first.view) rest;
+    }

@@ -8,10 +8,12 @@ abbrev pub invariant-loop-thread : goal.invariant-loop-thread
 invariant-loop-thread l =
     let first = l.initial.whole in
     let rest = into_iter_items l.thread-iterator in
-    (places_of l.whole.table l.whole.view ≡ places_of first.table first.view)
-    × (l.whole.view.desks ≡ first.view.desks)
-    × (l.whole.view.retired ≡ first.view.retired)
-    × (l.whole.view.halted ≡ first.view.halted)
-    × (l.whole.view.done_seen ≡ first.view.done_seen)
-    × (l.whole.view.stands ++ map stand rest ≡ first.view.stands ++ map stand (into_iter_items l.initial.thread-iterator))
-    × All (λ (t : ThreadEnd). t.places ≡ places_of first.table first.view) rest
+    record {
+      places : places_of l.whole.table l.whole.view ≡ places_of first.table first.view;
+      desks : l.whole.view.desks ≡ first.view.desks;
+      retired : l.whole.view.retired ≡ first.view.retired;
+      halted : l.whole.view.halted ≡ first.view.halted;
+      seen : l.whole.view.done_seen ≡ first.view.done_seen;
+      stands : l.whole.view.stands ++ map stand rest ≡ first.view.stands ++ map stand (into_iter_items l.initial.thread-iterator);
+      of : All (λ (t : ThreadEnd). t.places ≡ places_of first.table first.view) rest;
+    }

@@ -13,7 +13,7 @@ deal_thread-requires-clause-first c =
     let t = c.loop-thread.thread in
     let one = drop-cons hs t c.index.result.now (let a = c.loop-thread-test.true in let b = c.len-thread-end.ensures in omega arith) in (
       stands_from (t + 1) (drop (suc t) hs),
-      ap (λ (v : PlaceView). v.stands) c.loop-thread.invariant.0 ∙ ap (λ l. stands_from t l) one ∙ (λ k. record { thread = t; place = place.List (sym c.index.ensures k) } ∷ stands_from (t + 1) (drop (suc t) hs)),
+      ap (λ (v : PlaceView). v.stands) c.loop-thread.invariant.rest ∙ ap (λ l. stands_from t l) one ∙ (λ k. record { thread = t; place = place.List (sym c.index.ensures k) } ∷ stands_from (t + 1) (drop (suc t) hs)),
     )
 
 pub loop-thread-preserved : goal.loop-thread-preserved
@@ -30,18 +30,19 @@ loop-thread-preserved c =
     let one = drop-cons hs t 0 here in
     let p : Places = record { table = c.in_ok-all.all.table; threads = n; reactors = c.args.homes.reactors } in
     let now : c.loop-thread.all.view ≡ new_view n c.args.homes.reactors (record { thread = t; place = place.List (get_or hs t 0) } ∷ stands_from (t + 1) (drop (t + 1) hs)) c.args.homes.reactors =
-    i.0 ∙ ap (λ l. new_view n c.args.homes.reactors (stands_from t l) c.args.homes.reactors) (one ∙ ap (λ k. get_or hs t 0 ∷ drop k hs) next) in
+    i.rest ∙ ap (λ l. new_view n c.args.homes.reactors (stands_from t l) c.args.homes.reactors) (one ∙ ap (λ k. get_or hs t 0 ∷ drop k hs) next) in
     let seat : c.in_ok-deal_thread.field-0 ≡ seat_at p hs t =
     a.thread ∙ (λ k. record {
-      places = record { table = i.1 k; threads = (i.0 k).threads; reactors = (i.0 k).reactors };
+      places = record { table = i.table k; threads = (i.rest k).threads; reactors = (i.rest k).reactors };
       thread = t;
       place = place.List ((c.index.ensures ∙ get_or_default hs t c.index.result.now 0 here) k);
-    }) in (
-      ap (λ (e : BundleEnd). e.view) a.rest ∙ ap less_first_thread now,
-      ap (λ (e : BundleEnd). e.table) a.rest ∙ i.1,
-      (let l = ap length is ∙ length-append old (c.in_ok-deal_thread.field-0 ∷ []) in let m = i.2 in omega arith),
-      one_more_thread p hs old c.push.new.self.items t c.in_ok-deal_thread.field-0 is i.2 i.3 seat,
-    )
+    }) in
+    record {
+      rest = ap (λ (e : BundleEnd). e.view) a.rest ∙ ap less_first_thread now;
+      table = ap (λ (e : BundleEnd). e.table) a.rest ∙ i.table;
+      count = (let l = ap length is ∙ length-append old (c.in_ok-deal_thread.field-0 ∷ []) in let m = i.count in omega arith);
+      dealt = one_more_thread p hs old c.push.new.self.items t c.in_ok-deal_thread.field-0 is i.count i.dealt seat;
+    }
 
 pub returns : goal.returns
 returns c =
@@ -55,4 +56,4 @@ returns c =
     let p : Places = record { table = c.in_ok-all.all.table; threads = length c.args.homes.of.items; reactors = c.args.homes.reactors } in
     let all : c.loop.counter ≡ c.args.homes.reactors = (let z = most'.counter-end in omega arith) in
     let n : c.loop-thread.thread ≡ length c.args.homes.of.items = (let z = most.thread-end in omega arith) in
-    record { places = p; for_threads = refl; for_reactors = refl; thread_count = i.2 ∙ n; each_thread = λ t d l. i.3 t d (omega arith); desks = l.2 ∙ ap (λ z. replicate c.loop.counter (new_desk (record { table = z; threads = length c.args.homes.of.items; reactors = c.args.homes.reactors }))) i.1 ∙ ap (λ k. replicate k (new_desk p)) all }
+    record { places = p; for_threads = refl; for_reactors = refl; thread_count = i.count ∙ n; each_thread = λ t d l. i.dealt t d (omega arith); desks = l.dealt ∙ ap (λ z. replicate c.loop.counter (new_desk (record { table = z; threads = length c.args.homes.of.items; reactors = c.args.homes.reactors }))) i.table ∙ ap (λ k. replicate k (new_desk p)) all }

@@ -6,18 +6,20 @@ use Rattle.lw_place.specs.PlaceSeats.{ThreadEnd, new_desk}
 use Rattle.lw_place.proofs.making.places_from.Given as goal
 
 abbrev pub invariant-loop-thread : goal.invariant-loop-thread
-invariant-loop-thread l =
-    (l.all.view ≡ new_view (length l.homes.of.items) l.homes.reactors (stands_from l.thread (drop l.thread l.homes.of.items)) l.homes.reactors)
-    × (l.all.table ≡ l.initial.all.table)
-    × (length l.threads.items ≡ l.thread)
-    × ((k : ℕ) (d : ThreadEnd) → k < l.thread → slice_index_or l.threads.items k d ≡ record {
-      places = record { table = l.initial.all.table; threads = length l.homes.of.items; reactors = l.homes.reactors };
-      thread = k;
-      place = place.List (slice_index l.homes.of.items k);
-    })
+invariant-loop-thread l = record {
+  rest : l.all.view ≡ new_view (length l.homes.of.items) l.homes.reactors (stands_from l.thread (drop l.thread l.homes.of.items)) l.homes.reactors;
+  table : l.all.table ≡ l.initial.all.table;
+  count : length l.threads.items ≡ l.thread;
+  dealt : (k : ℕ) (d : ThreadEnd) → k < l.thread → slice_index_or l.threads.items k d ≡ record {
+    places = record { table = l.initial.all.table; threads = length l.homes.of.items; reactors = l.homes.reactors };
+    thread = k;
+    place = place.List (slice_index l.homes.of.items k);
+  };
+}
 
 abbrev pub invariant-loop : goal.invariant-loop
-invariant-loop l =
-    (l.all.view ≡ new_view (length l.homes.of.items) l.homes.reactors [] (l.homes.reactors - l.counter))
-    × (l.all.table ≡ l.initial.all.table)
-    × (l.desks.items ≡ replicate l.counter (new_desk (record { table = l.initial.all.table; threads = length l.homes.of.items; reactors = l.homes.reactors })))
+invariant-loop l = record {
+  rest : l.all.view ≡ new_view (length l.homes.of.items) l.homes.reactors [] (l.homes.reactors - l.counter);
+  table : l.all.table ≡ l.initial.all.table;
+  dealt : l.desks.items ≡ replicate l.counter (new_desk (record { table = l.initial.all.table; threads = length l.homes.of.items; reactors = l.homes.reactors }));
+}

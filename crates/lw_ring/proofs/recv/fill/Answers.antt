@@ -10,14 +10,15 @@ loop-preserved g c =
     let u = c.unpack.ensures in
     let parcel = c.in-Some-pop.parcel in
     let batch : List g.row.T.Denot = c.loop.batch.items in
-    let none : c.loop.hand.items ≡ [] = i.4 (search rules) in
+    let none : c.loop.hand.items ≡ [] = i.none_in_hand (search rules) in
     let was : batch ++ contents parcel ≡ (batch ++ reverse c.loop.hand.items) ++ contents parcel =
-    ap (λ l. l ++ contents parcel) (sym (append-nil batch) ∙ ap (λ (l : List g.row.T.Denot). batch ++ reverse l) (sym none)) in (
-      search rules,
-      one_off g.T.Tagged.letter g.T.Tagged.tag_of g.T.Tagged.fits _ _ _ parcel _ _ _ i.1 c.in-Some-pop.ensures.told (u.items ∙ was),
-      u.count,
-      search rules,
-      u.all,
-      u.spares,
-      (λ full. absurd (let same = ap length (i.6 full).0 in let more = c.if-len-max.false in omega arith)),
-    )
+    ap (λ l. l ++ contents parcel) (sym (append-nil batch) ∙ ap (λ (l : List g.row.T.Denot). batch ++ reverse l) (sym none)) in
+    record {
+      of_queue = search rules;
+      off = one_off g.T.Tagged.letter g.T.Tagged.tag_of g.T.Tagged.fits _ _ _ parcel _ _ _ i.off c.in-Some-pop.ensures.told (u.items ∙ was);
+      count = u.count;
+      room = search rules;
+      none_in_hand = u.all;
+      spares = u.spares;
+      full = λ full. absurd (let same = ap length (i.full full).0 in let more = c.if-len-max-2.false in omega arith);
+    }

@@ -5,11 +5,12 @@ use Rattle.lw_ring.specs.Ends.{IsSpare}
 use Rattle.lw_ring.proofs.recv.fill.Given as goal
 
 abbrev pub invariant-loop : goal.invariant-loop
-invariant-loop g l =
-    IsSegPassOf l.queue l.pass
-    × TakenOff g.T.Tagged.letter g.T.Tagged.tag_of g.T.Tagged.fits l.initial.pass.me.view.client l.pass.me.view.client (l.initial.batch.items ++ reverse l.initial.hand.items) (l.batch.items ++ reverse l.hand.items)
-    × (length l.batch.items ≤ l.initial.max)
-    × (vec_capacity l.initial.batch ≤ vec_capacity l.batch)
-    × (length l.batch.items < l.initial.max → l.hand.items ≡ [])
-    × All IsSpare l.spares.items
-    × (l.initial.max ≤ length l.initial.batch.items → (l.batch.items ≡ l.initial.batch.items) × (l.hand.items ≡ l.initial.hand.items))
+invariant-loop g l = record {
+  of_queue : IsSegPassOf l.queue l.pass;
+  off : TakenOff g.T.Tagged.letter g.T.Tagged.tag_of g.T.Tagged.fits l.fn.pass.me.view.client l.pass.me.view.client (l.fn.batch.items ++ reverse l.fn.hand.items) (l.batch.items ++ reverse l.hand.items);
+  count : length l.batch.items ≤ l.fn.max;
+  room : vec_capacity l.fn.batch ≤ vec_capacity l.batch;
+  none_in_hand : length l.batch.items < l.fn.max → l.hand.items ≡ [];
+  spares : All IsSpare l.spares.items;
+  full : l.fn.max ≤ length l.fn.batch.items → (l.batch.items ≡ l.fn.batch.items) × (l.hand.items ≡ l.fn.hand.items);
+}

@@ -3,7 +3,7 @@ use Rattle.lw_ring.proofs.Handing.{none_off, one_off, still_gets}
 use Rattle.lw_ring.proofs.settling.drain.Goals as goal
 
 pub loop-init : goal.loop-init
-loop-init g c = (search rules, none_off g.T.Tagged.letter g.T.Tagged.tag_of g.T.Tagged.fits _ _ c.requires.receiver.2)
+loop-init g c = (search rules, none_off g.T.Tagged.letter g.T.Tagged.tag_of g.T.Tagged.fits _ _ c.requires.short)
 
 pub pop-requires-clause-receiver : goal.pop-requires-clause-receiver
 pop-requires-clause-receiver g c = still_gets g.T.Tagged.letter g.T.Tagged.tag_of g.T.Tagged.fits _ _ _ _ c.loop.invariant.1 c.requires.receiver.0 c.requires.receiver.1

@@ -5,10 +5,10 @@ use Rattle.lw_model.proofs.JoinedWords.{join-cons}
 use Rattle.lw_report_print.proofs.TextLemmas.{after}
 use Rattle.lw_report_print.proofs.parts.SeenPrinted.push_to.Goals as goal
 
-pub returns : goal.returns
-returns c =
+pub returns-clause-bytes : goal.returns-clause-bytes
+returns-clause-bytes c =
     let s = c.args.self.now in
     let head = codes "seen " ++ decimal s.op in
     let words = result_words s.results in
-    let line = c.in_ok-push_results.ensures ∙ after _ _ head (flat_map (λ w. 32 ∷ w) words) (seen_line s) c.in_ok-push_seen_head.ensures (ap (λ t. codes "seen" ++ 32 ∷ t) (sym (join-cons (decimal s.op) words))) in
+    let line = c.in_ok-push_results.ensures.bytes ∙ after _ _ head (flat_map (λ w. 32 ∷ w) words) (seen_line s) c.in_ok-push_seen_head.ensures (ap (λ t. codes "seen" ++ 32 ∷ t) (sym (join-cons (decimal s.op) words))) in
     on_ok_weaker c.writeln.result (λ e. e ∙ after _ _ (seen_line s) (10 ∷ []) (seen_line s ++ 10 ∷ []) line refl) c.writeln.ensures.bytes

@@ -1,9 +1,9 @@
-use Rattle.std.proofs.Common.{rules, ◌≡◌, ℕ, ◌+◌, List, ◌++◌, map, length, sym, ap, ◌∙◌, subst, arith, length-append}
+use Rattle.std.proofs.Common.{rules, ◌≡◌, ◌++◌, map, length, sym, ap, ◌∙◌, subst, arith, length-append}
 use Rattle.std.proofs.lemmas.List.{length-map}
 use Rattle.lw_base.specs.Letters.{Numbered}
 use Rattle.lw_ring.specs.declared.queue.PassView.{PassView}
 use Rattle.lw_ring.specs.Calls.{NamedFrom}
-use Rattle.lw_ring.specs.Ends.{Sender, Outside}
+use Rattle.lw_ring.specs.Ends.{Sender}
 use Rattle.lw_ring.proofs.Handing.{numbered_on}
 use Rattle.lw_ring.proofs.ends.SendEnd.send_run.Goals as goal
 
@@ -21,17 +21,18 @@ invariant_of-self-in-Ok g c =
     let long = ap length put ∙ length-append v.put (map letter run) in
     let mapped = length-map run letter in
     let count : c.len-count.result ≡ length run = search rules in
-    let before = i.1.size in
+    let before = i.knows.size in
     let named : NamedFrom letter g.T.Tagged.tag_of c.self.inside.sender (length v.put) run =
-    subst (λ (x : S). NamedFrom letter g.T.Tagged.tag_of x.sender (length x.sent) run) (sym c.self.view_is) c.requires.names in (
-      search rules,
-      record {
-        not_fresh = ap (λ (y : V). y.fresh) now ∙ i.1.not_fresh;
-        sends = ap (λ (y : V). y.sends) now ∙ i.1.sends;
-        from = ap (λ (y : V). y.from) now ∙ i.1.from;
+    subst (λ (x : S). NamedFrom letter g.T.Tagged.tag_of x.sender (length x.sent) run) (sym c.self.view_is) c.requires.names in
+    record {
+      of_queue = search rules;
+      knows = record {
+        not_fresh = ap (λ (y : V). y.fresh) now ∙ i.knows.not_fresh;
+        sends = ap (λ (y : V). y.sends) now ∙ i.knows.sends;
+        from = ap (λ (y : V). y.from) now ∙ i.knows.from;
         size = omega arith;
-      },
-      (let most = c.if-count-self.false in let bound = i.2 in omega arith),
-      search rules,
-      subst (λ ls. Numbered g.T.Tagged.tag_of c.self.inside.sender ls) (sym put) (numbered_on letter g.T.Tagged.tag_of c.self.inside.sender v.put run i.4 named),
-    )
+      };
+      few = (let most = c.if-count-self.false in let bound = i.few in omega arith);
+      outside = search rules;
+      numbered = subst (λ ls. Numbered g.T.Tagged.tag_of c.self.inside.sender ls) (sym put) (numbered_on letter g.T.Tagged.tag_of c.self.inside.sender v.put run i.numbered named);
+    }

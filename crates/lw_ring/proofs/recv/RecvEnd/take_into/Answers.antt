@@ -1,4 +1,4 @@
-use Rattle.std.proofs.Common.{rules, ◌≡◌, ℕ, ◌+◌, ◌-◌, ◌<◌, ◌≤◌, List, [], ◌++◌, map, reverse, take, drop, length, sym, ap, ◌∙◌, subst, arith}
+use Rattle.std.proofs.Common.{rules, ◌≡◌, ℕ, ◌+◌, ◌-◌, List, ◌++◌, map, reverse, take, drop, length, sym, ap, ◌∙◌, subst, arith}
 use Rattle.std.proofs.lemmas.List.{length-reverse, length-map, map-append}
 use Rattle.lw_base.specs.Letters.{total_length}
 use Rattle.lw_ring.specs.declared.queue.PassView.{PassView}
@@ -18,23 +18,24 @@ invariant_of-self g c =
     let given : List g.row.T.Denot = c.fill.new.batch.items in
     let before : List g.row.T.Denot = reverse c.self.inside.hand.items in
     let start : c.hand_out.new.batch.items ++ reverse c.hand_out.new.hand.items ≡ before = c.hand_out.ensures.items ∙ ap (λ (l : List g.row.T.Denot). l ++ before) c.requires.room.0 in
-    let out = hands_out g.T.Tagged.letter g.T.Tagged.tag_of g.T.Tagged.fits v w c.self.inside.taken c.self.inside.senders (c.self.inside.taken + length c.self.inside.hand.items) before _ given (reverse c.fill.new.hand.items) r.1 (omega arith) r.5 r.6 start c.fill.ensures.off in
+    let out = hands_out g.T.Tagged.letter g.T.Tagged.tag_of g.T.Tagged.fits v w c.self.inside.taken c.self.inside.senders (c.self.inside.taken + length c.self.inside.hand.items) before _ given (reverse c.fill.new.hand.items) r.knows (omega arith) r.in_hand r.hand_fits start c.fill.ensures.off in
     let count : c.len.result ≡ length given = search rules in
     let taken : ℕ = c.self.inside.taken + c.len.result in
     let back = length-reverse c.fill.new.hand.items in
     let size : c.self.inside.taken + length given + length (reverse c.fill.new.hand.items) ≡ taken + length c.fill.new.hand.items = omega arith in
     let not_closed : closed_of c.self.inside.latch ≡ 0 = ap (λ (x : R). x.closed) c.self.view_is ∙ c.requires.not_closed in
-    let known = ap (λ (x : V). x.known) out.view in (
-      search rules,
-      subst (λ n. ReceiverView w c.self.inside.senders n) size out.gets,
-      (let a = out.size in let b = out.short in omega arith),
-      (let a = ap length known in let b = r.3 in omega arith),
-      subst (λ ks. Receiving c.self.inside.latch (c.self.inside.senders - length ks) (total_length ks) taken) (sym known)
-          (receiving_more c.self.inside.latch _ _ _ _ (λ closed. absurd (omega arith)) r.4),
-      ap (λ n. drop (c.self.inside.taken + n) w.got) count ∙ out.hand,
-      out.after_fit,
-      c.fill.ensures.spares,
-    )
+    let known = ap (λ (x : V). x.known) out.view in
+    record {
+      of_queue = search rules;
+      knows = subst (λ n. ReceiverView w c.self.inside.senders n) size out.gets;
+      short = (let a = out.size in let b = out.short in omega arith);
+      few_known = (let a = ap length known in let b = r.few_known in omega arith);
+      receiving = subst (λ ks. Receiving c.self.inside.latch (c.self.inside.senders - length ks) (total_length ks) taken) (sym known)
+          (receiving_more c.self.inside.latch _ _ _ _ (λ closed. absurd (omega arith)) r.receiving);
+      in_hand = ap (λ n. drop (c.self.inside.taken + n) w.got) count ∙ out.hand;
+      hand_fits = out.after_fit;
+      all_spare = c.fill.ensures.spares;
+    }
 
 pub returns-clause-taken : goal.returns-clause-taken
 returns-clause-taken g c =
@@ -46,7 +47,7 @@ returns-clause-taken g c =
     let given : List g.row.T.Denot = c.fill.new.batch.items in
     let before : List g.row.T.Denot = reverse c.self.inside.hand.items in
     let start : c.hand_out.new.batch.items ++ reverse c.hand_out.new.hand.items ≡ before = c.hand_out.ensures.items ∙ ap (λ (l : List g.row.T.Denot). l ++ before) c.requires.room.0 in
-    let out = hands_out g.T.Tagged.letter g.T.Tagged.tag_of g.T.Tagged.fits v w c.self.inside.taken c.self.inside.senders (c.self.inside.taken + length c.self.inside.hand.items) before _ given (reverse c.fill.new.hand.items) r.1 (omega arith) r.5 r.6 start c.fill.ensures.off in
+    let out = hands_out g.T.Tagged.letter g.T.Tagged.tag_of g.T.Tagged.fits v w c.self.inside.taken c.self.inside.senders (c.self.inside.taken + length c.self.inside.hand.items) before _ given (reverse c.fill.new.hand.items) r.knows (omega arith) r.in_hand r.hand_fits start c.fill.ensures.off in
     let count : c.len.result ≡ length given = search rules in
     let got : take (c.self.inside.taken + c.len.result) w.got ≡ c.args.self.now.taken ++ map g.T.Tagged.letter given =
     ap (λ n. take (c.self.inside.taken + n) w.got) count ∙ out.taken ∙ ap (λ (x : R). x.taken ++ map g.T.Tagged.letter given) c.self.view_is in
@@ -76,10 +77,10 @@ returns-clause-order g c =
     let given : List g.row.T.Denot = c.fill.new.batch.items in
     let before : List g.row.T.Denot = reverse c.self.inside.hand.items in
     let start : c.hand_out.new.batch.items ++ reverse c.hand_out.new.hand.items ≡ before = c.hand_out.ensures.items ∙ ap (λ (l : List g.row.T.Denot). l ++ before) c.requires.room.0 in
-    let out = hands_out g.T.Tagged.letter g.T.Tagged.tag_of g.T.Tagged.fits v w c.self.inside.taken c.self.inside.senders (c.self.inside.taken + length c.self.inside.hand.items) before _ given (reverse c.fill.new.hand.items) r.1 (omega arith) r.5 r.6 start c.fill.ensures.off in
+    let out = hands_out g.T.Tagged.letter g.T.Tagged.tag_of g.T.Tagged.fits v w c.self.inside.taken c.self.inside.senders (c.self.inside.taken + length c.self.inside.hand.items) before _ given (reverse c.fill.new.hand.items) r.knows (omega arith) r.in_hand r.hand_fits start c.fill.ensures.off in
     let count : c.len.result ≡ length given = search rules in
     let hand = ap (λ n. drop (c.self.inside.taken + n) w.got) count ∙ out.hand in
-    (out.order.0, ap (λ (x : R). x.hand ++ out.order.0) (sym c.self.view_is) ∙ out.order.1 ∙ ap (λ l. map g.T.Tagged.letter given ++ l) (sym hand))
+    record { more = out.order.more; parts = ap (λ (x : R). x.hand ++ out.order.more) (sym c.self.view_is) ∙ out.order.parts ∙ ap (λ l. map g.T.Tagged.letter given ++ l) (sym hand) }
 
 pub returns-clause-each : goal.returns-clause-each
 returns-clause-each g c =
@@ -91,7 +92,7 @@ returns-clause-each g c =
     let given : List g.row.T.Denot = c.fill.new.batch.items in
     let before : List g.row.T.Denot = reverse c.self.inside.hand.items in
     let start : c.hand_out.new.batch.items ++ reverse c.hand_out.new.hand.items ≡ before = c.hand_out.ensures.items ∙ ap (λ (l : List g.row.T.Denot). l ++ before) c.requires.room.0 in
-    let out = hands_out g.T.Tagged.letter g.T.Tagged.tag_of g.T.Tagged.fits v w c.self.inside.taken c.self.inside.senders (c.self.inside.taken + length c.self.inside.hand.items) before _ given (reverse c.fill.new.hand.items) r.1 (omega arith) r.5 r.6 start c.fill.ensures.off in
+    let out = hands_out g.T.Tagged.letter g.T.Tagged.tag_of g.T.Tagged.fits v w c.self.inside.taken c.self.inside.senders (c.self.inside.taken + length c.self.inside.hand.items) before _ given (reverse c.fill.new.hand.items) r.knows (omega arith) r.in_hand r.hand_fits start c.fill.ensures.off in
     let count : c.len.result ≡ length given = search rules in
     subst (λ (x : R). AllFit g.T.Tagged.letter g.T.Tagged.tag_of g.T.Tagged.fits x.number x.family x.senders given) c.self.view_is out.given_fit
 
@@ -105,11 +106,11 @@ returns-clause-in_hand g c = λ enough.
     let given : List g.row.T.Denot = c.fill.new.batch.items in
     let before : List g.row.T.Denot = reverse c.self.inside.hand.items in
     let start : c.hand_out.new.batch.items ++ reverse c.hand_out.new.hand.items ≡ before = c.hand_out.ensures.items ∙ ap (λ (l : List g.row.T.Denot). l ++ before) c.requires.room.0 in
-    let out = hands_out g.T.Tagged.letter g.T.Tagged.tag_of g.T.Tagged.fits v w c.self.inside.taken c.self.inside.senders (c.self.inside.taken + length c.self.inside.hand.items) before _ given (reverse c.fill.new.hand.items) r.1 (omega arith) r.5 r.6 start c.fill.ensures.off in
+    let out = hands_out g.T.Tagged.letter g.T.Tagged.tag_of g.T.Tagged.fits v w c.self.inside.taken c.self.inside.senders (c.self.inside.taken + length c.self.inside.hand.items) before _ given (reverse c.fill.new.hand.items) r.knows (omega arith) r.in_hand r.hand_fits start c.fill.ensures.off in
     let count : c.len.result ≡ length given = search rules in
     let hand = ap (λ n. drop (c.self.inside.taken + n) w.got) count ∙ out.hand in
     let letter = g.T.Tagged.letter in
-    let was : c.args.self.now.hand ≡ map letter before = ap (λ (x : R). x.hand) (sym c.self.view_is) ∙ r.5 in
+    let was : c.args.self.now.hand ≡ map letter before = ap (λ (x : R). x.hand) (sym c.self.view_is) ∙ r.in_hand in
     let size = ap length was ∙ length-map before letter in
     let one : List g.row.T.Denot = c.hand_out.new.batch.items in
     let rest : List g.row.T.Denot = reverse c.hand_out.new.hand.items in
