@@ -11,7 +11,8 @@ use Rattle.atomic_table.proofs.Lists.{at_set, at_snoc}
 use Rattle.lw_latch.specs.declared.ring_view.RingView.{RingView}
 use Rattle.lw_base.specs.Totals.{total}
 use Rattle.lw_base.specs.Words.{above_u64, greatest_u64}
-use Rattle.lw_latch.specs.RingWord.{most_senders, most_sent, closed_unit, finished_unit, latch_word, parts, inside, finished, closed, count, receives, word_of, alone, Fits, Latched, first_view, spent_view, sender_view, less_one_part, joined, closed_bit, Sat, Enters, Leaves, Finishes, TriesToClose, Tells, Learns}
+use Rattle.lw_latch.specs.OwnLine.{latch_word, alone}
+use Rattle.lw_latch.specs.RingWord.{most_senders, most_sent, closed_unit, finished_unit, parts, inside, finished, closed, count, receives, word_of, Fits, Latched, first_view, spent_view, sender_view, less_one_part, joined, closed_bit, Sat, Enters, Leaves, Finishes, TriesToClose, Tells, Learns}
 use Rattle.lw_latch.specs.RingEnds.{IsSender, IsReceiver}
 use Rattle.lw_base.proofs.Totals.{total_set, total_snoc, total_le, total_scaled, at_le, total_zero, total_only, others_none}
 

@@ -3,7 +3,8 @@ use Rattle.std.specs.Prelude.{◌≡◌, ◌≤◌, []}
 use Rattle.atomic_table.specs.Seated.{TableId}
 use Rattle.atomic_table.specs.declared.shared.Seat.{Seat}
 use Rattle.lw_latch.specs.declared.ring_view.RingView.{RingView}
-use Rattle.lw_latch.specs.RingWord.{table_words, sender_view}
+use Rattle.lw_latch.specs.OwnLine.{table_words}
+use Rattle.lw_latch.specs.RingWord.{sender_view}
 
 -- an end: of which latch it is, and what its seat knows
 pub record RingEnd : Type 0 where

@@ -1,11 +1,12 @@
 -- The word of a ring's latch: bits 0 to 15 count the senders inside, bit 16 is the closed bit, and the bits above count
 -- the finished messages.
-use Rattle.std.specs.Prelude.{◌≡◌, ◌≢◌, ℕ, ◌+◌, ◌-◌, ◌*◌, ◌/◌, ◌%◌, ◌≤◌, List, [], ◌∷◌, replicate, slice_set}
+use Rattle.std.specs.Prelude.{◌≡◌, ◌≢◌, ℕ, ◌+◌, ◌-◌, ◌*◌, ◌/◌, ◌%◌, ◌≤◌, List, [], ◌∷◌}
 use mathlib.Core.Option.{some}
 use lib.ListN.{get_elem?}
 use Rattle.atomic_table.specs.Table.{State, Me, Step}
 use Rattle.lw_latch.specs.declared.ring_view.RingView.{RingView}
 use Rattle.lw_base.specs.Totals.{total}
+use Rattle.lw_latch.specs.OwnLine.{alone}
 
 -- the most senders of a ring
 abbrev pub most_senders : ℕ
@@ -26,14 +27,6 @@ closed_unit = 65536
 -- what one finished message adds to the word: 2^17
 abbrev pub finished_unit : ℕ
 finished_unit = 131072
-
--- how many words the table has
-abbrev pub table_words : ℕ
-table_words = 16
-
--- which of them is the latch's
-abbrev pub latch_word : ℕ
-latch_word = 8
 
 abbrev pub parts : RingView → ℕ
 parts v = v.parts
@@ -56,11 +49,6 @@ count v = v.count
 -- the word that the views make
 abbrev pub word_of : List RingView → ℕ
 word_of vs = total inside vs + closed_unit * total closed vs + finished_unit * total finished vs
-
--- the words of the table: the latch's stands alone, with unused ones before and behind it, so that what others write next
--- to the table never lies on its cache line
-abbrev pub alone : ℕ → List ℕ
-alone word = slice_set (replicate table_words 0) latch_word word
 
 -- what the rule says of one view of a latch that `shut` seats have closed
 pub record Fits (shut : ℕ) (v : RingView) : Type 0 where

@@ -3,6 +3,7 @@ ghost use Rattle.std.specs.Prelude.{◌≡◌, ◌≢◌, ℕ, ◌+◌, ◌-◌,
 ghost use Rattle.lw_latch.specs.RingWord.{most_senders, most_sent, above_all_sent, closed_unit, finished_unit, first_view, sender_view, joined};
 ghost use Rattle.lw_latch.specs.RingEnds.{IsSender, new_sender};
 
+use crate::own_line::{WORD, WORDS};
 use crate::ring_view::{
     Entering, Finishing, Leaving, Looking, RingTable, RingView, Seats, Shutting,
 };
@@ -11,12 +12,6 @@ use lw_base::NoMemory;
 use std::alloc::Global;
 use std::marker::Model;
 use std::sync::Arc;
-
-/// How many words the table has.
-const WORDS: usize = 16;
-
-/// Which of them is the latch's: 64 bytes stand before it and 56 behind it, so that it lies alone on its cache line.
-const WORD: usize = 8;
 
 /// What the closed bit adds to the word. Below it the word counts the senders inside.
 const CLOSED: u64 = 65_536;
