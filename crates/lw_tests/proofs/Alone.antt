@@ -1,5 +1,5 @@
 -- A registry with one device.
-use Rattle.std.proofs.Common.{◌≡◌, inl, ℕ, zero, suc, ◌+◌, ◌<◌, List, [], ◌∷◌, length, get_or, refl, sym, ap, ◌∙◌, arith, All}
+use Rattle.std.proofs.Common.{◌≡◌, inl, ℕ, zero, suc, ◌<◌, List, [], ◌∷◌, length, get_or, refl, arith, All}
 use Rattle.std.proofs.lemmas.List.Elements.{All-head}
 use Rattle.lw_latch.specs.DeviceEnds.{DeviceLatch, SeatEnd, HaveFired}
 use Rattle.lw_base.specs.Totals.{total}
