@@ -1,3 +1,3 @@
 mod Steps
 mod Rows
-mod Overwriting
+pub mod Overwriting

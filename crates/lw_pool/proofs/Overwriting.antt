@@ -1,12 +1,21 @@
 -- Bytes that are lent from the first on.
-use Rattle.std.proofs.Common.{rules, ◌≡◌, ◌≤◌, ℕ, List, ◌++◌, length, take, drop, arith, length-take-le}
+use Rattle.std.proofs.Common.{rules, ◌≡◌, ◌≤◌, ℕ, List, ◌++◌, length, take, drop, arith}
 use Rattle.std.proofs.lemmas.List.{same_lists, places}
 use Rattle.std.proofs.lemmas.Bool.{cases_lt}
 use Rattle.lw_pool.specs.Lending.{overwritten}
 
--- the first n of the bytes with others written over them are the first n with those written over them
-pub lent_bytes : (n size : ℕ) (bytes new : List ℕ) → size ≡ length bytes → n ≤ size
-    → take n (take size ((new ++ drop (length new) bytes) ++ drop (length (new ++ drop (length new) bytes)) bytes)) ≡ overwritten (take n bytes) new
-lent_bytes n size bytes new long fits =
-    let cut = length-take-le n bytes (omega arith) in
+-- the bytes with the first of them written over, as a part of a vector leaves them
+pub lent_bytes : (size : ℕ) (bytes new : List ℕ) → size ≡ length bytes
+    → take size ((new ++ drop (length new) bytes) ++ drop (length (new ++ drop (length new) bytes)) bytes) ≡ overwritten bytes new
+lent_bytes size bytes new long =
     same_lists _ _ (search (rules, places)) (λ k d h. grind (arith, places, cases_lt k (length new)))
+
+-- what is written over the first bytes stands there
+pub written_front : (bytes new : List ℕ) (n : ℕ) → length new ≡ n → n ≤ length bytes → take n (overwritten bytes new) ≡ new
+written_front bytes new n long fits =
+    same_lists _ _ (search (arith, rules, places)) (λ k d h. grind (arith, places))
+
+-- and the bytes behind stay
+pub kept_behind : (bytes new : List ℕ) (n : ℕ) → length new ≡ n → n ≤ length bytes → drop n (overwritten bytes new) ≡ drop n bytes
+kept_behind bytes new n long fits =
+    same_lists _ _ (search (arith, rules, places)) (λ k d h. grind (arith, places))

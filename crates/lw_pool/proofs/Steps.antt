@@ -138,9 +138,6 @@ module _ (size : ℕ) where
       (λ count g. record { knows = λ _. g.knows (omega arith); gave_what_it_took = g.gave_what_it_took; idle_has_none = λ none. absurd (omega arith) })
       (λ count g. record { knows = λ _. g.knows (omega arith); gave_what_it_took = omega arith; idle_has_none = λ _. refl })
 
-  pub marks : (pass : ℕ) (v : PoolView) → Forks (Kept size) pass v v idle
-  marks pass v = split pass v v idle (omega arith) (omega arith) (λ count g. g) (λ count g. fits_idle count)
-
   pub joins : (pass : ℕ) (v : PoolView) (other : ℕ) (u : PoolView) → 1 ≤ v.parts → Merges (Kept size) pass v other u (joined v u) idle
   joins pass v other u some_parts items views h at apart there =
       let w : PoolView = joined v u in

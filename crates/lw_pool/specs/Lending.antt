@@ -8,6 +8,7 @@ use Rattle.lw_pool.specs.PoolEnds.{BufferEnd}
 abbrev pub overwritten : List ℕ → List ℕ → List ℕ
 overwritten bytes new = take (length bytes) (new ++ drop (length new) bytes)
 
--- once the borrow r ends, the filled bytes are those that r shows last
+-- once the borrow r ends, as many bytes are filled as it showed, and they are those that it shows last
 abbrev pub LendsFilled : MutBor BufferEnd → MutBor (List ℕ) → Fml
-LendsFilled s r = Lends the_row (Array u8 0) s r (λ w. record { queue = s.now.queue; class = s.now.class; filled = overwritten r.now w })
+LendsFilled s r = Lends the_row (Array u8 0) s r
+    (λ w. record { queue = s.now.queue; class = s.now.class; bytes = overwritten s.now.bytes w; filled = length r.now })

@@ -1,5 +1,5 @@
 -- What callers see of a pool's passes and buffers.
-use Rattle.std.specs.Prelude.{◌≡◌, ℕ, ◌+◌, ◌-◌, ◌<◌, ◌≤◌, List, length, All, slice_index_or}
+use Rattle.std.specs.Prelude.{◌≡◌, ℕ, ◌+◌, ◌-◌, ◌<◌, ◌≤◌, List, length, take, All, slice_index_or}
 use Rattle.atomic_table.specs.Seated.{TableId}
 use Rattle.lw_pool.specs.declared.class.Class.{Class}
 use Rattle.lw_pool.specs.declared.class.Class.TheVariants.{Small, Large}
@@ -26,11 +26,16 @@ pub record PoolEnd : Type 0 where
   pub small : Tally
   pub large : Tally
 
--- a buffer that is out: the queue of its pool and class, its class, and its filled bytes
+-- a buffer that is out: the queue of its pool and class, its class, all its bytes, and how many of them are filled
 pub record BufferEnd : Type 0 where
   pub queue : TableId
   pub class : Class
-  pub filled : List ℕ
+  pub bytes : List ℕ
+  pub filled : ℕ
+
+-- its filled bytes
+abbrev pub filled_bytes : BufferEnd → List ℕ
+filled_bytes b = take b.filled b.bytes
 
 -- a pool's queue and count of a class
 abbrev pub queue_of : Class → Pool → TableId

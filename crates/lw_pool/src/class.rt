@@ -1,10 +1,10 @@
 //! The two classes of buffers.
 
 /// How many bytes a small buffer has.
-pub(crate) const SMALL_BYTES: usize = 8_192;
+pub const SMALL_BYTES: usize = 8_192;
 
 /// How many bytes a large buffer has.
-pub(crate) const LARGE_BYTES: usize = 135_168;
+pub const LARGE_BYTES: usize = 135_168;
 
 /// A class of buffers.
 #[derive(Clone, Copy, PartialEq, Eq, Debug)]

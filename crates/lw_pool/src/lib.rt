@@ -12,8 +12,8 @@ mod queue;
 mod settling;
 
 pub use buffer::Buffer;
-pub use class::Class;
+pub use class::{Class, LARGE_BYTES, SMALL_BYTES};
+pub use lw_base::Home;
 pub use making::pool;
 pub use pass::{Empty, PoolPass};
-pub use lw_base::Home;
 pub use settling::settle_pool;

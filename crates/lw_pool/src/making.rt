@@ -28,8 +28,14 @@ pub fn pool<R: Wait>(
     requires users { (1 ≤ users) × (users ≤ most_users) }
     ensures { IfOk result (λ ps. AreNew small large users ps.items) }
 {
-    let (small, mut small_pass) = stock::<SmallKind, R>(rt, alloc, SMALL_BYTES, small as usize)?;
-    let (large, mut large_pass) = stock::<LargeKind, R>(rt, alloc, LARGE_BYTES, large as usize)?;
+    let Stocked {
+        queue: small,
+        pass: mut small_pass,
+    } = stock::<SmallKind, R>(rt, alloc, SMALL_BYTES, small as usize)?;
+    let Stocked {
+        queue: large,
+        pass: mut large_pass,
+    } = stock::<LargeKind, R>(rt, alloc, LARGE_BYTES, large as usize)?;
     let shared = Shared {
         small,
         large,
@@ -49,17 +55,24 @@ pub fn pool<R: Wait>(
     Ok(passes)
 }
 
-// A queue with `count` buffers of `size` bytes, and the pass that stands for all.
+// A queue with all its buffers, and the pass that stands for all.
+#[derive(Drop)]
+struct Stocked<K: Kind> {
+    queue: Queue<K>,
+    pass: Pass,
+}
+
+// A queue with `count` buffers of `size` bytes.
 fn stock<K: Kind, R: Wait>(
     rt: &R,
     alloc: Global,
     size: usize,
     count: usize,
-) -> Result<(Queue<K>, Pass), NoMemory>
+) -> Result<Stocked<K>, NoMemory>
     requires size { size ≡ K.size }
     requires count { 1 ≤ count }
-    ensures queue { IfOk result (λ q. IsPassOf q.0 q.1 × (ruled_capacity q.0 ≡ count)) }
-    ensures all { IfOk result (λ q. view q.1 ≡ new_view most_users count) }
+    ensures queue { IfOk result (λ s. IsPassOf s.queue s.pass × (ruled_capacity s.queue ≡ count)) }
+    ensures all { IfOk result (λ s. view s.pass ≡ new_view most_users count) }
 {
     let (queue, mut pass) = Queue::<K>::ruled(alloc, count)?;
     for _ in 0..count {
@@ -68,7 +81,7 @@ fn stock<K: Kind, R: Wait>(
             unreachable!();
         }
     }
-    Ok((queue, pass))
+    Ok(Stocked { queue, pass })
 }
 
 // One more pass, which is not the last.

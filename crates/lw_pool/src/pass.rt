@@ -1,5 +1,5 @@
 //! A user's pass: buffers are taken and given back by it.
-ghost use Rattle.std.specs.Prelude.{◌≡◌, ◌+◌, ◌-◌, ◌<◌, ◌≤◌, [], length, IfOk, IfErr, OnOk};
+ghost use Rattle.std.specs.Prelude.{◌≡◌, ◌+◌, ◌-◌, ◌<◌, ◌≤◌, IfOk, IfErr, OnOk};
 ghost use Rattle.crossbeam_queue.specs.Passes.{view, IsPassOf, IsSamePass, ruled_capacity};
 ghost use Rattle.lw_pool.specs.Sizes.{size_of, most_users, most_given};
 ghost use Rattle.lw_pool.specs.PoolRule.{lent};
@@ -7,9 +7,10 @@ ghost use Rattle.lw_pool.specs.PoolEnds.{IsOf, queue_of, count_of, given_of, tak
 
 use crate::buffer::Buffer;
 use crate::class::Class;
-use crate::queue::{Giving, Kind, LargeKind, Marking, Pass, Queue, SmallKind, Taking};
+use crate::queue::{Giving, Kind, LargeKind, Pass, Queue, SmallKind, Taking};
 use std::alloc::Global;
 use std::marker::Model;
+use std::snapshot::Snapshot;
 use std::sync::{Arc, Wait};
 use thiserror::Error;
 
@@ -81,11 +82,8 @@ impl PoolPass {
     /// It is `Empty` only where that class was empty at this call's own step. So a pool's only pass finds it empty exactly
     /// where it has all buffers of the class out.
     pub fn take<R: Wait>(&mut self, rt: &R, class: Class) -> Result<Buffer, Empty>
-        ensures buffer { IfOk result (λ b. b ≡ record {
-          queue = queue_of class self.old.pool;
-          class = class;
-          filled = [];
-        }) }
+        ensures buffer { IfOk result (λ b.
+            (b.queue ≡ queue_of class self.old.pool) × (b.class ≡ class) × (b.filled ≡ 0)) }
         ensures lent { OnOk result (self.new ≡ with_taken class self.old) }
         ensures room { OnOk result (lent_of class self.old < count_of class self.old.pool) }
         ensures same { IfErr result (λ _. self.new ≡ self.old) }
@@ -125,11 +123,8 @@ fn draw<K: Kind, R: Wait>(
     requires user { 1 ≤ (view pass.old).parts }
     requires class { size_of class ≡ K.size }
     ensures queue { IsSamePass pass.old pass.new }
-    ensures buffer { IfOk result (λ b. b ≡ record {
-      queue = queue.now.table.shared.table_id;
-      class = class;
-      filled = [];
-    }) }
+    ensures buffer { IfOk result (λ b.
+        (b.queue ≡ queue.now.table.shared.table_id) × (b.class ≡ class) × (b.filled ≡ 0)) }
     ensures taken { OnOk result
         ((view pass.new ≡ record (view pass.old) { taken = (view pass.old).taken + 1 })
         × (lent (view pass.old) < (view pass.old).count)) }
@@ -142,7 +137,7 @@ fn draw<K: Kind, R: Wait>(
             bytes,
             filled: 0,
             class,
-            mark: queue.another::<Marking>(pass),
+            mark: Snapshot::of(pass),
         }),
         None => Err(Empty),
     }

@@ -122,17 +122,6 @@ impl Join<PoolView> for Dealing {
     ghost spent = { idle };
 }
 
-/// A pass that stands for nothing is split off for a buffer, which shows by it of which queue the buffer is.
-pub struct Marking;
-
-impl Split<PoolView> for Marking {
-    ghost use Rattle.lw_pool.specs.PoolRule.{idle};
-
-    ghost left = { λ v. v };
-
-    ghost right = { λ _. idle };
-}
-
 pub type Queue<K> = RuledArrayQueue<Vec<u8>, PoolView, Rule<K>, Global>;
 
 pub type Pass = crossbeam_queue::Pass<Vec<u8>, PoolView>;

@@ -1,1 +1,2 @@
 pub mod Registries
+pub mod Pools

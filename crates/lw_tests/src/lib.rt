@@ -17,6 +17,8 @@ mod memory;
 #[cfg(test)]
 mod places;
 #[cfg(test)]
+mod pools;
+#[cfg(test)]
 mod ring_latches;
 #[cfg(test)]
 mod rings;
