@@ -24,7 +24,7 @@ use Rattle.lw_whole.specs.WholeRun.{Taken, is_for, was_sent, IsWholeRun}
 use Rattle.lw_whole.proofs.Access.{at_number, RoleOf}
 use Rattle.lw_whole.proofs.Steps.{placed}
 
--- each field of `IsWholeRun` and of the records below it
+-- each field of `IsWholeRun` and of the records below it; what a thread sends at its steps is one premise, with all its parts
 pub data Premise : Type 0 where
   threads : Premise
   tags : Premise

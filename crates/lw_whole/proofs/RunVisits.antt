@@ -1,4 +1,4 @@
--- A whole run with a visit past a client that has exited, and a cast over five threads.
+-- A whole run of five threads, with a visit and a cast past a client that has exited.
 use Rattle.std.proofs.Common.{List, [], ◌∷◌, refl, arith, inl, inr}
 use Rattle.std.proofs.lemmas.Bool.{false≢true, true≢false}
 use Rattle.lw_base.specs.declared.message.What.TheVariants as what
