@@ -15,9 +15,10 @@ use Rattle.lw_model.specs.declared.record.RoleKind.TheVariants as role
 use Rattle.lw_model.specs.Threads.{is_client, owner_of, ops_of, depth_of, op_at, image_at, is_on}
 use Rattle.lw_model.specs.OwnOrder.{own_order, with_past}
 use Rattle.lw_model.specs.Holding.{is_started, says, always, is_closed, gains, loses, ordinal_given, references, pending, held}
-use Rattle.lw_model.specs.Answers.{unanswered, unanswered_on, answer_fits, depth_fits, at_fits}
+use Rattle.lw_model.specs.Answers.{unanswered, unanswered_on, answer_fits, depth_fits}
 use Rattle.lw_model.specs.Devices.{is_refusal}
 use Rattle.lw_model.specs.Sent.{referred}
+use Rattle.lw_whole.specs.Lines as whole
 use Rattle.lw_target.specs.declared.client.Client.{Client}
 use Rattle.lw_target.specs.declared.channel.Channel.{Channel}
 
@@ -61,9 +62,9 @@ line_fits s t past (step.Ran i m) = true
 abbrev pub lines_fit : Script → ℕ → List Step → Bool
 lines_fit s t steps = list_all (λ p. line_fits s t p.0 p.1) (with_past [] steps)
 
--- each of these is not below the one before it, and at most `most`
+-- the lines of a client came behind ever more messages, and behind `most` at most
 abbrev pub ats_ascend : ℕ → List Did → Bool
-ats_ascend most dids = list_all (λ p. at_fits most p.0 p.1) (with_past [] (map (λ x. x.at) dids))
+ats_ascend most dids = whole.ats_ascend most (map (λ x. x.at) dids)
 
 -- the client is one of the script's, with a channel for each of its images
 pub record IsOf (s : Script) (c : Client) : Type 0 where

@@ -19,6 +19,7 @@ use Rattle.lw_model.specs.Moves.{number_fits}
 use Rattle.lw_model.specs.Holding.{says, always, ordinal_given}
 use Rattle.lw_model.specs.Devices.{is_refusal}
 use Rattle.lw_model.specs.Lawful.{reply_op}
+use Rattle.lw_whole.specs.Logs.{to_thread}
 use Rattle.lw_target.specs.ClientLog.{sends_of_steps, lines_fit, ats_ascend}
 
 -- what was run of a sender
@@ -27,7 +28,7 @@ run_from sender ran = map (λ m. m.what) (filter (λ m. m.sender == sender) ran)
 
 -- what of these goes to a receiver
 abbrev pub sent_to : ℕ → List (ℕ × What) → List What
-sent_to receiver sends = map (λ p. p.1) (filter (λ p. p.0 == receiver) sends)
+sent_to receiver sends = to_thread receiver sends
 
 -- each message is numbered by how many of its sender came before
 abbrev pub are_numbered : List Tag → Bool

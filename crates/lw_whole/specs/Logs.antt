@@ -52,5 +52,5 @@ abbrev pub sent_by_thread : List Log → ℕ → List (ℕ × Letter)
 sent_by_thread logs s = unwrap_or (option_map all_sends (slice_get logs s)) []
 
 -- of these, what goes to thread t
-abbrev pub to_thread : ℕ → List (ℕ × Letter) → List Letter
+abbrev pub to_thread : {X : Type 0} → ℕ → List (ℕ × X) → List X
 to_thread t sends = map (λ p. p.1) (filter (λ p. p.0 == t) sends)
