@@ -1,2 +1,1 @@
-pub mod Registries
 pub mod Pools

@@ -5,10 +5,6 @@
 #[cfg(test)]
 mod any_rings;
 #[cfg(test)]
-mod device_latches;
-#[cfg(test)]
-mod devices;
-#[cfg(test)]
 mod images;
 #[cfg(test)]
 mod items;

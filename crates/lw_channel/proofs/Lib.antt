@@ -1,0 +1,2 @@
+mod Agreement
+pub mod SetLaws
