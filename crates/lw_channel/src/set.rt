@@ -14,7 +14,7 @@ use std::marker::Model;
 /// What a get gave.
 #[derive(Clone, Copy, PartialEq, Eq, Debug)]
 pub struct Got {
-    /// The ordinal of the thread's channel: so many were given before it, over all threads.
+    /// The ordinal of the thread's channel. Once the registry is settled, so many were given before it, over all threads.
     pub ordinal: u64,
     /// Whether this get made the channel. Else it stood, and has one reference more.
     pub made: bool,
@@ -41,7 +41,8 @@ impl Model for ChannelSet {
 }
 
 impl ChannelSet {
-    /// The set of a thread whose row holds no channel and was never asked for one. No channel stands.
+    /// The set of a thread whose row holds no channel and was never asked for one. No channel stands. Without memory the row is
+    /// dropped.
     pub fn new(alloc: Global, row: DeviceRow) -> Result<ChannelSet, NoMemory>
         requires channels { All (λ e. e.view.channel ≡ 0) row.seats }
         requires gets { All (λ e. e.view.gives ≡ 0) row.seats }
@@ -60,8 +61,9 @@ impl ChannelSet {
     /// It makes the channel exactly where none stood; the ordinal is then above all that the row was given (where the row has
     /// taken in all others, it is how many were given), and nothing was submitted on the channel yet. Else the ordinal is that
     /// of the channel that stands. With both the row before had neither found the device shut nor shut it. With `Shut`, which
-    /// comes also where the channel stands, the row keeps that it found the device shut. `NoDevice` comes exactly where the
-    /// device's number isn't below the count.
+    /// comes also where the channel stands, the row keeps that it found the device shut, and the channel, its references and
+    /// what was submitted on it stay as they were. `NoDevice` comes exactly where the device's number isn't below the count.
+    /// Whatever the answer, something is kept of each device of the row.
     pub fn get(&mut self, device: u32) -> Result<Got, GetRefusal>
         requires { (channel_of self.old device).gets < most_gives }
         ensures made { IfOk result (λ got. got.made ≡ true →
@@ -75,6 +77,7 @@ impl ChannelSet {
             × (self.new ≡ with_both self.old device channel_shared seat_usable)) }
         ensures found_open { IfOk result (λ _.
             (device < length self.old.row.seats) × KnowsOpen (seat_of self.old.row device).view) }
+        ensures each_device { length self.old.channels ≡ length self.old.row.seats }
         ensures no_device { IfErr result (λ e. e ≡ GetRefusal.NoDevice →
             (self.new ≡ self.old) × (length self.old.row.seats ≤ device)) }
         ensures shut { IfErr result (λ e. e ≡ GetRefusal.Shut →
@@ -209,7 +212,8 @@ impl ChannelSet {
 
     // The ordinal of the channel of a device, where one stands.
     fn ordinal(&self, device: u32) -> Option<u64>
-        ensures { result ≡ (channel_of self.now device).ordinal }
+        ensures ordinal { result ≡ (channel_of self.now device).ordinal }
+        ensures each_device { length self.now.channels ≡ length self.now.row.seats }
     {
         match self.channels.get(device as usize) {
             Some(channel) => channel.ordinal,
@@ -235,9 +239,10 @@ impl ChannelSet {
         }
     }
 
-    /// How many references to the channel of a device there are.
+    /// How many references to the channel of a device there are. Where there is one, the channel stands.
     pub fn count(&self, device: u32) -> u64
-        ensures { result ≡ (channel_of self.now device).references }
+        ensures references { result ≡ (channel_of self.now device).references }
+        ensures stands { 1 ≤ result → holds self.now device ≡ true }
     {
         match self.channels.get(device as usize) {
             Some(channel) => channel.references,
@@ -245,9 +250,12 @@ impl ChannelSet {
         }
     }
 
-    /// How many requests were submitted on the channel of a device since it was made, 0 where none stands.
+    /// How many requests were submitted on the channel of a device since it was made, 0 where none stands. Where there is a
+    /// reference, it is what `note_submit` counts.
     pub fn submitted(&self, device: u32) -> u64
-        ensures { result ≡ submitted_on self.now device }
+        ensures submitted { result ≡ submitted_on self.now device }
+        ensures counted { 1 ≤ (channel_of self.now device).references →
+            result ≡ (channel_of self.now device).submitted }
     {
         match self.channels.get(device as usize) {
             Some(channel) if channel.ordinal.is_some() => channel.submitted,
@@ -260,15 +268,18 @@ impl ChannelSet {
     pub fn note_submit(&mut self, device: u32)
         requires reference { 1 ≤ (channel_of self.old device).references }
         requires room { (channel_of self.old device).submitted < 2 ^ 40 }
-        ensures { self.new ≡ with_channel self.old device channel_submitted }
+        ensures counted { self.new ≡ with_channel self.old device channel_submitted }
+        ensures stands { holds self.old device ≡ true }
     {
         self.channels[device as usize].submit();
     }
 
-    /// Whether no channel of any device stands. Then the row holds none.
+    /// Whether no channel of any device stands. Then the row holds none, no reference is left, and no message behind a last
+    /// put is pending.
     pub fn is_empty(&self) -> bool
         ensures set { IsTrue result ↔ IsEmpty self.now }
         ensures row { result ≡ true → All (λ e. e.view.channel ≡ 0) self.now.row.seats }
+        ensures rest { result ≡ true → All (λ k. k.references + k.pending ≡ 0) self.now.channels }
     {
         self.channels
             .iter()
@@ -276,7 +287,7 @@ impl ChannelSet {
     }
 
     /// Begins the unregistration of a device, unless it has begun, and answers how many channels were given. It is the row's
-    /// call, with what is said there.
+    /// call, with what is said there. The device's number is below the count.
     ///
     /// With a count the row began, and before had neither found the device shut nor shut it, by its own calls or by those of a
     /// row that it took in. The count is above every ordinal that the row was given and no less than their number; where the
@@ -297,8 +308,8 @@ impl ChannelSet {
         self.row.unregister(device)
     }
 
-    /// Makes the device's callback due, if nobody holds a channel of it or has a visit. Only the set whose own `unregister`
-    /// began may call it.
+    /// Makes the device's callback due, if nobody holds a channel of it or has a visit. The device's number is below the count,
+    /// and only the set whose own `unregister` began may call it.
     ///
     /// `Fired` comes exactly where the word that was found is that of a device which is shut and has not fired, with nothing
     /// open and as many given as `unregister` told; the row before had not fired. `NotYet` carries the word that was found,
@@ -320,7 +331,8 @@ impl ChannelSet {
         self.row.callback_due(device)
     }
 
-    /// Begins this thread's visit of a device, unless the device is shut. A thread has at most one visit of a device.
+    /// Begins this thread's visit of a device, unless the device is shut. The device's number is below the count. A thread has at
+    /// most one visit of a device.
     ///
     /// With `Held` the row has the visit, and before had neither found the device shut nor shut it, by its own calls or by
     /// those of a row that it took in. With `Shut` it has no visit, and keeps that it found the device shut.
@@ -334,7 +346,7 @@ impl ChannelSet {
         self.row.begin_visit(device)
     }
 
-    /// Ends this thread's visit of a device.
+    /// Ends this thread's visit of a device, which it has. The device's number is below the count.
     pub fn end_visit(&mut self, device: u32)
         requires device { device < length self.old.row.seats }
         requires visit { (seat_of self.old.row device).view.visit ≡ 1 }
@@ -344,7 +356,8 @@ impl ChannelSet {
     }
 
     /// Takes in the set of another thread of the registry, in which no channel stands, which has no visit and has fired each
-    /// device that it began. From then on this set's row keeps what the other's had been given, found, begun and fired.
+    /// device that it began. From then on this set's row keeps what the other's had been given, found, begun and fired. Of each
+    /// of the two it is known that it fired only what it began.
     pub fn take_in(&mut self, other: ChannelSet)
         requires registry { latches other.row ≡ latches self.old.row }
         requires empty { IsEmpty other }

@@ -53,6 +53,8 @@ fn the_last_put_defers_and_its_message_destroys(rt: HostRuntime) -> Result<(), F
     assert!(rt; set.holds(0) && !set.is_empty());
     assert!(rt; set.put_message(0) == After::Destroyed);
     assert!(rt; set.is_empty() && set.submitted(0) == 0);
+    assert!(rt; set.unregister(0) == Ok(1));
+    assert!(rt; set.callback_due(0) == Firing::Fired);
     Ok(())
 }
 
@@ -82,6 +84,18 @@ fn a_get_in_between_keeps_the_channel(rt: HostRuntime) -> Result<(), Fail> {
     assert!(rt; set.unregister(0) == Ok(1));
     assert!(rt; set.callback_due(0) == Firing::Fired);
     assert!(rt; set.get(0) == Err(GetRefusal::Shut));
+    Ok(())
+}
+
+#[test]
+fn of_two_pending_messages_the_second_destroys(rt: HostRuntime) -> Result<(), Fail> {
+    let mut set = one_set(rt.alloc())?;
+    assert!(rt; set.get(0).is_ok());
+    assert!(rt; set.put(0) == Ok(Put::Deferred));
+    assert!(rt; set.get(0).is_ok());
+    assert!(rt; set.put(0) == Ok(Put::Deferred));
+    assert!(rt; set.put_message(0) == After::Kept && set.holds(0));
+    assert!(rt; set.put_message(0) == After::Destroyed && !set.holds(0));
     Ok(())
 }
 

@@ -59,7 +59,10 @@ fn a_visit_of_one_thread_is_complete_after_its_step(rt: HostRuntime) -> Result<(
     let mut set = one_set(rt.alloc())?;
     let token = start_visit(rt.alloc(), &mut set, 0, 5, 0, 1)?;
     assert!(rt; token.origin() == 0 && token.op() == 5 && token.device() == 0);
-    assert!(rt; matches!(token.step(0, &set), Next::Complete(_)));
+    let Next::Complete(token) = token.step(0, &set) else {
+        return Err(Fail::new("the token is not complete"));
+    };
+    assert!(rt; finish_visit(&mut set, token).is_empty());
     Ok(())
 }
 
@@ -97,8 +100,16 @@ fn cast_past_one(alloc: Global) -> Result<Option<Vec<u32>>, NoMemory> {
 fn a_cast_gathers_who_ran_it(rt: HostRuntime) -> Result<(), Fail> {
     let ran = cast_past_one(rt.alloc())?;
     assert!(rt; ran.as_deref() == Some([0, 2, 3, 4].as_slice()));
-    let token = start_cast(rt.alloc(), 6, 7, 1)?;
-    assert!(rt; token.origin() == 6 && token.op() == 7);
-    assert!(rt; matches!(token.step(0), Next::Complete(_)));
+    Ok(())
+}
+
+#[test]
+fn a_cast_over_one_thread_is_complete_after_its_step(rt: HostRuntime) -> Result<(), Fail> {
+    let token = start_cast(rt.alloc(), 0, 0, 1)?;
+    assert!(rt; token.origin() == 0 && token.op() == 0);
+    let Next::Complete(token) = token.step(0) else {
+        return Err(Fail::new("the token is not complete"));
+    };
+    assert!(rt; token.results().as_slice() == [0].as_slice());
     Ok(())
 }

@@ -84,7 +84,7 @@ impl CastToken {
         onward(self, past + 1, threads)
     }
 
-    /// The threads that ran the token: in ascending order, each once at most.
+    /// The threads that ran the token so far, of a complete one all: in ascending order, each once at most.
     pub fn results(self) -> Vec<u32>
         ensures ran { result.items ≡ self.ran }
         ensures ascending { AscendBelow self.goes_to result.items }

@@ -92,8 +92,9 @@ impl VisitToken {
         self.op
     }
 
-    /// The step of the thread `here`, to which the token goes: it adds its mark exactly where it holds a channel of the
-    /// device, with what was submitted on that. The token then goes to the next thread, or is complete exactly at the last.
+    /// The step of the thread `here`, to which the token goes, with its own set: it adds its mark exactly where that set holds a
+    /// channel of the device, with what was submitted on that. The token then goes to the next thread, or is complete exactly
+    /// at the last.
     pub fn step(mut self, here: u32, set: &ChannelSet) -> Next<VisitToken>
         requires { (here ≡ self.goes_to) × (here < self.threads) }
         ensures to { (n : ℕ) (token : Visit) → result ≡ Next.To n token →
@@ -138,8 +139,8 @@ impl VisitToken {
     }
 }
 
-/// Begins a visit of a device by this thread, and makes its token, which goes to thread 0. The thread has no visit of the
-/// device, and there is at least one thread.
+/// Begins a visit of a device by the thread `origin`, with its own set, and makes its token, which goes to thread 0. The
+/// device's number is below the count, the thread has no visit of the device, and there is at least one thread.
 ///
 /// Room for all results is taken first: `NoMemory` leaves all as it was. With a token the row has the visit, and before had
 /// neither found the device shut nor shut it. With `Shut` it has no visit, and keeps that it found the device shut.
@@ -175,8 +176,8 @@ pub fn start_visit(
     }
 }
 
-/// Ends this thread's visit of the token's device, and answers the marks: in ascending order of their threads, each thread
-/// once at most.
+/// Ends the visit of the token's device, which the set's thread has, and answers the marks: in ascending order of their threads,
+/// each thread once at most. Of a token that is complete these are the marks of all threads.
 pub fn finish_visit(set: &mut ChannelSet, token: VisitToken) -> Vec<Mark>
     requires device { token.device < length set.old.row.seats }
     requires visit { (seat_of set.old.row token.device).view.visit ≡ 1 }
