@@ -1,2 +1,1 @@
 mod Agreement
-pub mod SetLaws
