@@ -1,3 +1,5 @@
+pub mod Bools
+pub mod Lists
 mod Pieces
 mod Readings
 pub mod Totals

@@ -4,7 +4,7 @@ use mathlib.Core.Logic.{dite}
 use native.Mathlib.Decide.{ℕ_discrete}
 use mathlib.Core.Option.{some, some-injective, some-ne-none}
 use lib.ListN.{get_elem?}
-use Rattle.lw_base.specs.Totals.{total}
+use Rattle.lw_base.specs.Totals.{total, times}
 
 module _ {V : Type 0} where
   pub total_set : (f : V → ℕ) (l : List V) (i : ℕ) (v w : V) → get_elem? l i ≡ some v → total f (set l i w) + f v ≡ total f l + f w
@@ -54,3 +54,7 @@ module _ {V : Type 0} where
   some_view f (x ∷ xs) h = dite (ℕ_discrete (f x) 0)
       (λ none. (let r = some_view f xs (omega arith) in (suc r.0, r.1, r.2, r.3)))
       (λ some_here. (0, x, refl, omega arith))
+
+pub times_append : (k : ℕ) (xs ys : List ℕ) → times k (xs ++ ys) ≡ times k xs + times k ys
+times_append k [] ys = omega arith
+times_append k (x ∷ xs) ys = let r = times_append k xs ys in omega arith

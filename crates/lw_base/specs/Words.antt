@@ -12,3 +12,7 @@ greatest_u64 = 18446744073709551615
 -- above every number of 32 bits: 2^32
 abbrev pub above_u32 : ℕ
 above_u32 = 4294967296
+
+-- the greatest number of 32 bits: 2^32 less 1
+abbrev pub greatest_u32 : ℕ
+greatest_u32 = 4294967295

@@ -40,10 +40,6 @@ match_next zero (e ∷ es) fs f x m = ap (λ (l : List DeviceLatch). drop 1 l) m
 match_next (suc d) [] fs f x m = absurd (let n = ap length m in omega arith)
 match_next (suc d) (e ∷ es) fs f x m = match_next d es fs f x m
 
-pub nothing_left : {X : Type 0} (xs : List X) → length xs ≡ 0 → xs ≡ []
-nothing_left [] e = refl
-nothing_left (x ∷ xs) e = absurd (omega arith)
-
 -- the first of what is left stands in its place
 pub next_left : {X : Type 0} (n : ℕ) (xs ys : List X) (x d : X) → drop n xs ≡ x ∷ ys → (n < length xs) × (get_or xs n d ≡ x) × (ys ≡ drop (suc n) xs)
 next_left zero [] ys x d e = absurd (let l = ap length e in omega arith)

@@ -1,18 +1,15 @@
 -- What is known of a device once all rows are in one hand.
-use Rattle.std.proofs.Common.{◌≡◌, ℕ, zero, suc, ◌+◌, ◌<◌, ◌≤◌, List, [], ◌∷◌, ◌++◌, length, get_or, refl, sym, ap, ◌∙◌, ⊎_elim, arith, All, Any, length-append}
+use Rattle.std.proofs.Common.{◌≡◌, ℕ, zero, suc, ◌+◌, ◌<◌, ◌≤◌, List, [], ◌∷◌, length, get_or, refl, sym, ap, ◌∙◌, ⊎_elim, arith, All, Any, length-append}
 use Rattle.std.proofs.lemmas.List.Elements.{All-nil, All-cons, All-head, All-tail}
 use mathlib.Core.Logic.{dite}
 use native.Mathlib.Decide.{ℕ_discrete}
-use Rattle.lw_base.specs.Totals.{total}
-use Rattle.lw_latch.specs.DeviceWord.{held_count, times, IsWhole}
+use Rattle.lw_base.specs.Totals.{total, times}
+use Rattle.lw_latch.specs.DeviceWord.{held_count, IsWhole}
 use Rattle.lw_latch.specs.DeviceEnds.{FiresOnlyWhatItBegan, SeatEnd, HaveFired, Settles}
 use Rattle.lw_base.specs.declared.ends.DeviceEnd.{DeviceEnd}
+use Rattle.lw_base.proofs.Totals.{times_append}
 use Rattle.lw_device.specs.Rows.{IsEndOf}
 use Rattle.lw_device.proofs.Joining.{joined, joined_sum, joined_began, begun_of}
-
-pub times_append : (k : ℕ) (xs ys : List ℕ) → times k (xs ++ ys) ≡ times k xs + times k ys
-times_append k [] ys = omega arith
-times_append k (x ∷ xs) ys = let r = times_append k xs ys in omega arith
 
 -- what one of these has, all have at least
 pub at_least : (f : SeatEnd → ℕ) (es : List SeatEnd) (k : ℕ) (x : SeatEnd) → k < length es → get_or es k x ≡ x → f x ≤ total f es

@@ -1,6 +1,7 @@
 -- A thread's steps, one after another.
-use Rattle.std.proofs.Common.{◌≡◌, ℕ, zero, suc, ◌+◌, ◌<◌, ◌≤◌, List, [], ◌∷◌, ◌++◌, length, map, get_or, reverse, take, Some, slice_get, refl, sym, ap, ◌∙◌, arith}
+use Rattle.std.proofs.Common.{◌≡◌, ℕ, zero, suc, ◌+◌, ◌<◌, ◌≤◌, List, [], ◌∷◌, ◌++◌, length, map, get_or, reverse, take, Some, slice_get, ap, ◌∙◌, arith}
 use Rattle.std.specs.List.{AllByRecursion, enumerate_from}
+use Rattle.std.proofs.lemmas.List.{take_all}
 use Rattle.lw_base.specs.declared.message.Tag.{Tag}
 use Rattle.lw_model.specs.declared.record.Called.{Called}
 use Rattle.lw_model.specs.declared.record.Did.{Did}
@@ -43,15 +44,9 @@ placed r t x at = all-in_order (IsPlaced r t) (steps_of x)
     count : 0 + length x.did ≡ length (did_of r t)
     count = omega (arith, ap length (listed (λ x. x.did) r t x at))
 
--- a thread's whole own order
-pub whole : (r : Record) (t : ℕ) (x : ThreadRecord) (steps : List Step) (n : ℕ) → slice_get r.threads t ≡ Some x → steps ≡ own_order x → length steps ≤ n → reverse (take n steps) ≡ reverse (own_order_of r t)
-whole r t x steps n at are all = ap reverse (take_all steps n all ∙ are ∙ sym (listed own_order r t x at))
-  where
-    take_all : {X : Type 0} (xs : List X) (n : ℕ) → length xs ≤ n → take n xs ≡ xs
-    take_all [] zero h = refl
-    take_all [] (suc n) h = refl
-    take_all (y ∷ ys) zero h = absurd (omega (arith, h))
-    take_all (y ∷ ys) (suc n) h = ap (λ l. y ∷ l) (take_all ys n (omega (arith, h)))
+-- behind all steps of a thread
+pub whole : (r : Record) (t : ℕ) (steps : List Step) (n : ℕ) → steps ≡ own_order_of r t → length steps ≤ n → reverse (take n steps) ≡ reverse (own_order_of r t)
+whole r t steps n are all = ap reverse (take_all n steps all ∙ are)
 
 -- what stands where there is no step
 abbrev pub no_step : Step

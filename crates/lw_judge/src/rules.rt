@@ -31,13 +31,24 @@ pub fn judge(alloc: Global, of: &Record) -> Result<Verdict, NoMemory>
     ensures lawful { IfOk result (λ v. (v ≡ answer.Lawful) ↔ lawful.Lawful of.now) }
 {
     let layout = Layout::of(alloc, of)?;
+    judge_laid_out(alloc, of, &layout)
+}
+
+// Judges all rules. What each of these calls is given is its caller's, so that nothing has to be given back where memory is
+// lacking.
+fn judge_laid_out(alloc: Global, of: &Record, layout: &Layout) -> Result<Verdict, NoMemory>
+    requires scheduler { of.now.scheduler ≡ Static }
+    requires layout { IsLayout of.now layout.now }
+    ensures verdict { IfOk result (λ v. v ≡ verdict_as (verdict of.now)) }
+    ensures lawful { IfOk result (λ v. (v ≡ answer.Lawful) ↔ lawful.Lawful of.now) }
+{
     if let Some(line) = homes_and_hops(of, layout.threads.as_slice()) {
         return Ok(Verdict::Unlawful { clause: 1, line });
     }
     if let Some(line) = numbers(alloc, of, layout.threads.as_slice())? {
         return Ok(Verdict::Unlawful { clause: 2, line });
     }
-    judge_own_orders(alloc, of, &layout)
+    judge_own_orders(alloc, of, layout)
 }
 
 // Judges the rules from the third on.
@@ -46,19 +57,36 @@ fn judge_own_orders(alloc: Global, of: &Record, layout: &Layout) -> Result<Verdi
     requires layout { IsLayout of.now layout.now }
     ensures { IfOk result (λ v. v ≡ verdict_as (first_failing 3 (drop 2 rules) of.now)) }
 {
-    let lines = layout.threads.as_slice();
     let runners = Runners::new(alloc, of)?;
-    let walk = Walk::of(alloc, of, lines, &runners)?;
+    let walk = Walk::of(alloc, of, layout.threads.as_slice(), &runners)?;
+    judge_walked(alloc, of, layout, &runners, &walk)
+}
+
+// Judges them by what the own orders told.
+fn judge_walked(
+    alloc: Global,
+    of: &Record,
+    layout: &Layout,
+    runners: &Runners,
+    walk: &Walk,
+) -> Result<Verdict, NoMemory>
+    requires scheduler { of.now.scheduler ≡ Static }
+    requires layout { IsLayout of.now layout.now }
+    requires runners { AreRunners of.now runners.now }
+    requires walked { IsWalkedTo of.now (thread_count of.now.script) [] walk.now }
+    ensures { IfOk result (λ v. v ≡ verdict_as (first_failing 3 (drop 2 rules) of.now)) }
+{
+    let lines = layout.threads.as_slice();
     if let Some(line) = walk.answers {
         return Ok(Verdict::Unlawful { clause: 3, line });
     }
-    if let Some(line) = ran_is_sent(alloc, of, lines, &runners, &walk.sends)? {
+    if let Some(line) = ran_is_sent(alloc, of, lines, runners, &walk.sends)? {
         return Ok(Verdict::Unlawful { clause: 4, line });
     }
     if let Some(line) = replies(alloc, of, lines)? {
         return Ok(Verdict::Unlawful { clause: 5, line });
     }
-    judge_ends(alloc, of, layout, &runners, &walk)
+    judge_ends(alloc, of, layout, runners, walk)
 }
 
 // Judges the rules from the sixth on. A static run has no rounds, so that the eighth holds.

@@ -1,6 +1,8 @@
 //! Each thread's own order, gone through once for all rules that look at it.
 ghost use Rattle.std.specs.Prelude.{◌≡◌, ◌<◌, ◌^◌, ◌+◌, ◌∷◌, [], ℕ, List, Some, length, slice_get, IfOk, OnOk};
+ghost use Rattle.std.specs.List.{AllByRecursion};
 ghost use Rattle.lw_model.specs.declared.step.Step.{Step};
+ghost use Rattle.lw_model.specs.OwnOrder.{own_order_of};
 ghost use Rattle.lw_model.specs.Threads.{thread_count};
 ghost use Rattle.lw_judge_threads.specs.LinesOf.{AreThreadLines, StandsAt, IsPlaced};
 ghost use Rattle.lw_judge_messages.specs.Tokens.{AreRunners};
@@ -44,17 +46,41 @@ impl Walk {
         requires runners { AreRunners of.now runners.now }
         ensures { IfOk result (IsWalkedTo of.now (thread_count of.now.script) []) }
     {
-        let mut walk = Walk {
+        let mut walk = Walk::new(alloc, of)?;
+        walk.go_through_all(alloc, of, layout, runners)?;
+        Ok(walk)
+    }
+
+    // Before the first thread.
+    fn new(alloc: Global, of: &Record) -> Result<Self, NoMemory>
+        ensures { IfOk result (IsWalkedTo of.now 0 []) }
+    {
+        Ok(Walk {
             sends: Sends::new(alloc, of.threads.len())?,
             devices: Devices::new(alloc, of.script.images.len())?,
             marks: Marks::new(alloc),
             answers: None,
-        };
+        })
+    }
+
+    // Goes through all threads.
+    fn go_through_all(
+        &mut self,
+        alloc: Global,
+        of: &Record,
+        layout: &[ThreadLines],
+        runners: &Runners,
+    ) -> Result<(), NoMemory>
+        requires lines { AreThreadLines of.now layout.now }
+        requires runners { AreRunners of.now runners.now }
+        requires walked { IsWalkedTo of.now 0 [] self.old }
+        ensures { OnOk result (IsWalkedTo of.now (thread_count of.now.script) [] self.new) }
+    {
         for (thread, lines) in layout.iter().enumerate() {
             let told = &of.threads.as_slice()[thread];
-            walk.go_through(alloc, of, runners, thread, told, lines)?;
+            self.go_through(alloc, of, runners, thread, told, lines)?;
         }
-        Ok(walk)
+        Ok(())
     }
 
     // Goes through one thread's own order.
@@ -73,10 +99,43 @@ impl Walk {
         requires walked { IsWalkedTo of.now thread [] self.old }
         ensures { OnOk result (IsWalkedTo of.now (thread + 1) [] self.new) }
     {
-        let mut going = Going::new(alloc, of, thread)?;
         let steps = own_order(alloc, told)?;
-        for step in steps.as_slice() {
-            self.step(alloc, of, runners, thread, lines, &mut going, step)?;
+        let mut going = Going::new(alloc, of, thread)?;
+        self.go_along(
+            alloc,
+            of,
+            runners,
+            thread,
+            lines,
+            steps.as_slice(),
+            &mut going,
+        )
+    }
+
+    // Goes past all steps of a thread that did nothing so far, and past its end. What is made for the thread is the
+    // caller's, so that nothing has to be given back where memory is lacking.
+    fn go_along(
+        &mut self,
+        alloc: Global,
+        of: &Record,
+        runners: &Runners,
+        thread: usize,
+        lines: &ThreadLines,
+        steps: &[Step],
+        going: &mut Going,
+    ) -> Result<(), NoMemory>
+        requires within { thread < 2 ^ 32 }
+        requires few { length steps.now < 2 ^ 63 }
+        requires steps { steps.now ≡ own_order_of of.now thread }
+        requires placed { AllByRecursion (IsPlaced of.now thread) steps.now }
+        requires lines { StandsAt of.now thread lines.now }
+        requires runners { AreRunners of.now runners.now }
+        requires going { IsGoingAt of.now thread [] going.old }
+        requires walked { IsWalkedTo of.now thread [] self.old }
+        ensures { OnOk result (IsWalkedTo of.now (thread + 1) [] self.new) }
+    {
+        for step in steps {
+            self.step(alloc, of, runners, thread, lines, going, step)?;
         }
         self.sends.finish(of, thread)?;
         let least = answers_of_thread(of, thread, lines, going.answering.least());

@@ -99,7 +99,3 @@ pub set_same : (ds : List Bool) (i : ℕ) → get_or ds i true ≡ true → set 
 set_same [] i is = refl
 set_same (d ∷ ds) zero is = ap (λ e. e ∷ ds) (sym is)
 set_same (d ∷ ds) (suc i) is = ap (λ l. d ∷ l) (set_same ds i is)
-
-pub and_true : (b : Bool) → (b && true) ≡ b
-and_true true = refl
-and_true false = refl

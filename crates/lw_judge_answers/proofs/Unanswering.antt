@@ -3,6 +3,7 @@ use Rattle.std.proofs.Common.{◌≡◌, ℕ, ◌+◌, ◌-◌, ◌<◌, ◌≤�
 use Rattle.std.proofs.lemmas.Bool.{eqb-true, eq-eqb, ne_eqb, cases_eq}
 use Rattle.std.proofs.lemmas.List.{get_or-set_same, get_or-set_other}
 use Rattle.std.proofs.lemmas.List.Sums.{sum_by-cons, count_by-le-length}
+use Rattle.lw_judge_threads.proofs.HoldingSteps.{off_images}
 use Rattle.lw_model.specs.declared.script.Script.{Script}
 use Rattle.lw_base.specs.declared.message.What.{What}
 use Rattle.lw_base.specs.declared.message.What.TheVariants as what
@@ -16,9 +17,6 @@ use Rattle.lw_model.specs.Answers.{unanswered}
 
 on_some : (s : Script) (t d k e : ℕ) → image_at s t k ≡ Some e → is_on s t d k ≡ (e == d)
 on_some s t d k e is = ap (λ o. elim o [ None ↦ false | Some f ↦ f == d ]) is
-
-on_none : (s : Script) (t d k : ℕ) → image_at s t k ≡ None → is_on s t d k ≡ false
-on_none s t d k is = ap (λ o. elim o [ None ↦ false | Some f ↦ f == d ]) is
 
 -- ---- One more
 
@@ -121,7 +119,7 @@ device_answered s t k d ks xs ys on long is counts e less =
 
 -- an op on no device
 pub nowhere_answered : (s : Script) (t k e : ℕ) (ks : List ℕ) → image_at s t k ≡ None → length (filter (is_on s t e) (filter (λ j. not (j == k)) ks)) ≡ length (filter (is_on s t e) ks)
-nowhere_answered s t k e ks on = ap length (left_off (is_on s t e) k ks (on_none s t e k on))
+nowhere_answered s t k e ks on = ap length (left_off (is_on s t e) k ks (off_images s t e k on))
 
 -- the count of each op
 pub op_answered : (f g : ℕ → Option ℕ) (k : ℕ) (ks : List ℕ) → ((q : ℕ) → g q ≡ cond (k == q) None (f q))

@@ -2,7 +2,7 @@
 use Rattle.std.proofs.Common.{◌≡◌, ℕ, ◌+◌, ◌==◌, Bool, true, false, cond, not, ◌&&◌, ◌||◌, is_none, List, [], ◌∷◌, ◌++◌, reverse, append_assoc, Option, Some, None, filter_map, flat_map, refl, sym, ap, ◌∙◌, arith}
 use Rattle.std.proofs.Math.Bool.{and-true, or-false}
 use Rattle.std.specs.List.{list_all, list_any, range_with_len, cons_option}
-use Rattle.std.proofs.lemmas.List.{append-nil, reverse-append, reverse-reverse}
+use Rattle.std.proofs.lemmas.List.{append-nil, reverse-reverse}
 use Rattle.std.proofs.lemmas.List.Concat.{flat_map-append}
 use Rattle.std.proofs.lemmas.List.Elements.{filter_map-append}
 use Rattle.std.proofs.lemmas.List.Folds.{list_all-append, list_any-append}
@@ -12,6 +12,8 @@ use Rattle.lw_model.specs.declared.record.Called.{Called}
 use Rattle.lw_model.specs.declared.record.Answer.{Answer}
 use Rattle.lw_model.specs.declared.record.Answer.TheVariants as answer
 use Rattle.lw_base.specs.declared.message.Tag.{Tag}
+use Rattle.lw_base.proofs.Lists.{range_push, reverse_cons}
+use Rattle.lw_base.proofs.Bools.{and_assoc}
 use Rattle.lw_model.specs.declared.step.Step.{Step}
 use Rattle.lw_model.specs.declared.step.Step.TheVariants as step
 use Rattle.lw_model.specs.Threads.{is_client, is_on}
@@ -21,10 +23,6 @@ use Rattle.lw_model.specs.Devices.{ordinal_on, began_on, called_on, callback_fit
 use Rattle.lw_model.proofs.Growth.{with_past_push}
 use Rattle.lw_judge_devices.specs.declared.device.Device.{Device}
 use Rattle.lw_judge_devices.specs.DeviceTold.{times_of, times_with, listed, told, all_fit, is_refused, any_refused, IsDeviceAt, GoesPast}
-use Rattle.lw_judge_threads.proofs.Leasts.{range_push}
-
-reverse_more : {X : Type 0} (s : X) (past : List X) → reverse (s ∷ past) ≡ reverse past ++ s ∷ []
-reverse_more s past = reverse-append (s ∷ []) past
 
 -- ---- One step more
 
@@ -37,7 +35,7 @@ found_one {X} f s = at (f s)
 
 pub told_more : {X : Type 0} (r : Record) (f : ℕ → Step → Option X) (t : ℕ) (s : Step) (past : List Step) → told r f t (s ∷ past) ≡ told r f t past ++ listed (f t s)
 told_more {X} r f t s past =
-    ap (λ ss. before ++ filter_map (f t) ss) (reverse_more s past)
+    ap (λ ss. before ++ filter_map (f t) ss) (reverse_cons s past)
     ∙ ap (λ l. before ++ l) (filter_map-append (f t) (reverse past) (s ∷ []) ∙ ap (λ l. filter_map (f t) (reverse past) ++ l) (found_one (f t) s))
     ∙ sym (append_assoc before (filter_map (f t) (reverse past)) (listed (f t s)))
   where
@@ -52,13 +50,9 @@ times_more (x ∷ []) (Some y) = refl
 times_more (x ∷ y ∷ xs) None = refl
 times_more (x ∷ y ∷ xs) (Some z) = refl
 
-and_assoc : (a b c : Bool) → (a && (b && c)) ≡ ((a && b) && c)
-and_assoc true b c = refl
-and_assoc false b c = refl
-
 pub all_fit_more : (r : Record) (fits : ℕ → List Step → Step → Bool) (t : ℕ) (s : Step) (past : List Step) → all_fit r fits t (s ∷ past) ≡ (all_fit r fits t past && fits t past s)
 all_fit_more r fits t s past =
-    ap (λ b. before && b) (ap (λ ss. list_all (λ (p : List Step × Step). fits t p.0 p.1) (with_past [] ss)) (reverse_more s past)
+    ap (λ b. before && b) (ap (λ ss. list_all (λ (p : List Step × Step). fits t p.0 p.1) (with_past [] ss)) (reverse_cons s past)
     ∙ ap (list_all (λ (p : List Step × Step). fits t p.0 p.1)) (with_past_push [] (reverse past) s)
     ∙ list_all-append (λ (p : List Step × Step). fits t p.0 p.1) (with_past [] (reverse past)) ((reverse (reverse past) ++ [], s) ∷ [])
     ∙ ap (λ b. list_all (λ (p : List Step × Step). fits t p.0 p.1) (with_past [] (reverse past)) && b) (and-true (fits t (reverse (reverse past) ++ []) s) ∙ ap (λ ps. fits t ps s) (append-nil (reverse (reverse past)) ∙ reverse-reverse past)))
@@ -170,7 +164,7 @@ all_fit_next r fits t =
 
 list_any-reverse : {X : Type 0} (p : X → Bool) (xs : List X) → list_any p (reverse xs) ≡ list_any p xs
 list_any-reverse p [] = refl
-list_any-reverse p (x ∷ xs) = ap (list_any p) (reverse_more x xs) ∙ list_any-append p (reverse xs) (x ∷ []) ∙ ap (λ b. b || (p x || false)) (list_any-reverse p xs) ∙ turned (p x) (list_any p xs)
+list_any-reverse p (x ∷ xs) = ap (list_any p) (reverse_cons x xs) ∙ list_any-append p (reverse xs) (x ∷ []) ∙ ap (λ b. b || (p x || false)) (list_any-reverse p xs) ∙ turned (p x) (list_any p xs)
   where
     turned : (a b : Bool) → (b || (a || false)) ≡ (a || b)
     turned true true = refl

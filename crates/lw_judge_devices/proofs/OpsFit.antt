@@ -1,26 +1,26 @@
 -- What a script without a broken rule says of its images and of the reads of its clients.
-use Rattle.std.proofs.Common.{◌≡◌, ℕ, zero, suc, ◌+◌, ◌*◌, ◌<◌, ◌≤◌, nat_lt, nat_le, Bool, true, false, cond, ◌&&◌, not, List, [], ◌∷◌, ◌++◌, length, map, flat_map, slice_get, Option, Some, None, option_map, unwrap_or, is_none, refl, sym, ap, subst, arith}
+use Rattle.std.proofs.Common.{◌≡◌, ℕ, zero, suc, ◌+◌, ◌*◌, ◌<◌, ◌≤◌, nat_lt, nat_le, true, ◌&&◌, not, List, [], ◌∷◌, length, map, flat_map, slice_get, Option, Some, None, option_map, unwrap_or, refl, sym, ap, subst, arith}
 use Rattle.std.specs.Prelude.{find, sum_by}
-use Rattle.std.specs.List.{list_all, enumerate_from, AllByRecursion}
+use Rattle.std.specs.List.{enumerate_from, AllByRecursion}
 use Rattle.std.proofs.lemmas.Bool.{and_parts, leb-true}
 use Rattle.std.proofs.lemmas.Option.{same_Some}
+use Rattle.lw_base.proofs.Lists.{none_is, all_first, all_second, none_mapped}
 use Rattle.lw_model.specs.declared.script.Script.{Script}
 use Rattle.lw_model.specs.declared.script.ClientOf.{ClientOf}
 use Rattle.lw_model.specs.declared.script.ImageOf.{ImageOf}
 use Rattle.lw_model.specs.declared.script.Op.{Op}
 use Rattle.lw_model.specs.declared.script.Op.TheVariants as op
 use Rattle.lw_model.specs.declared.record.Record.{Record}
-use Rattle.lw_model.specs.declared.refusal.ScriptRefusal.{ScriptRefusal}
 use Rattle.lw_model.specs.declared.refusal.ScriptRefusal.TheVariants.{Limit, Range}
 use Rattle.lw_model.specs.ScriptRules.{Placed, placed_ops, with_earlier, first_out_of_range, is_in_range, is_in_range_after, is_in_image, is_among, read_bytes, rule_broken, rule_answers, has_client_count, has_image_sizes, block_at, blocks_at}
 use Rattle.lw_model.proofs.Rules.{each-none, kept, block_sizes-kept, each_passes}
 use Rattle.lw_model.proofs.Printed.{parts}
-use Rattle.lw_judge_threads.proofs.Named.{none_from}
+use Rattle.lw_model.proofs.Passing.{item_passes}
 use Rattle.lw_judge_devices.specs.Answered.{IsReadable, ReadsFit}
 
 -- a record's script breaks no rule
 unbroken : (r : Record) → rule_broken r.script ≡ None
-unbroken r = none_from (rule_broken r.script) (parts r).script
+unbroken r = none_is (rule_broken r.script) (parts r).script
 
 -- it has few clients
 pub few_clients : (r : Record) → length r.script.clients ≤ 64
@@ -30,11 +30,6 @@ few_clients r = leb-true (length r.script.clients) 64 (and_parts (nat_le 1 (leng
     count = kept (rule_answers r.script) 3 (has_client_count r.script) (Limit 4) (unbroken r) refl
 
 -- ---- Images
-
-item_passes : {X : Type 0} (p : X → Bool) (xs : List X) (i : ℕ) (x : X) → list_all p xs ≡ true → slice_get xs i ≡ Some x → p x ≡ true
-item_passes p [] i x all at = cc
-item_passes p (y ∷ xs) zero x all at = subst (λ z. p z ≡ true) (same_Some y x at) (and_parts (p y) (list_all p xs) all).0
-item_passes p (y ∷ xs) (suc i) x all at = item_passes p xs i x (and_parts (p y) (list_all p xs) all).1 at
 
 -- an image has blocks of some bytes, and not too many
 pub image_fits : (r : Record) (d : ℕ) (image : ImageOf) → slice_get r.script.images d ≡ Some image → (0 < image.block) × (image.blocks * image.block ≤ 16777216)
@@ -59,14 +54,6 @@ blocks_are s d image at = sym (ap (λ (o : Option ImageOf). unwrap_or (option_ma
 
 -- ---- Ops
 
-all_left : {X : Type 0} (P : X → Type 0) (xs ys : List X) → AllByRecursion P (xs ++ ys) → AllByRecursion P xs
-all_left P [] ys all = tt
-all_left P (x ∷ xs) ys all = (all.0, all_left P xs ys all.1)
-
-all_right : {X : Type 0} (P : X → Type 0) (xs ys : List X) → AllByRecursion P (xs ++ ys) → AllByRecursion P ys
-all_right P [] ys all = all
-all_right P (x ∷ xs) ys all = all_right P xs ys all.1
-
 abbrev placed_of : ℕ × ClientOf → List Placed
 placed_of c = map (λ o. record { client = c.0; place = o.0; op = o.1 }) (enumerate_from 0 c.1.ops)
 
@@ -79,8 +66,8 @@ op_placed Q c n (x ∷ ops) all (suc k) o at = op_placed Q c (n + 1) ops all.1 k
 client_placed : (Q : Op → Type 0) (n : ℕ) (cs : List ClientOf) → AllByRecursion (λ (p : Placed). Q p.op) (flat_map placed_of (enumerate_from n cs))
     → (c k : ℕ) (o : Op) → slice_get (unwrap_or (option_map (λ x. x.ops) (slice_get cs c)) []) k ≡ Some o → Q o
 client_placed Q n [] all c k o at = let wrong : ◌≡◌ {A = Option Op} None (Some o) = at in cc
-client_placed Q n (x ∷ cs) all zero k o at = op_placed Q n 0 x.ops (all_left (λ (p : Placed). Q p.op) (placed_of (n, x)) (flat_map placed_of (enumerate_from (n + 1) cs)) all) k o at
-client_placed Q n (x ∷ cs) all (suc c) k o at = client_placed Q (n + 1) cs (all_right (λ (p : Placed). Q p.op) (placed_of (n, x)) (flat_map placed_of (enumerate_from (n + 1) cs)) all) c k o at
+client_placed Q n (x ∷ cs) all zero k o at = op_placed Q n 0 x.ops (all_first (λ (p : Placed). Q p.op) (placed_of (n, x)) (flat_map placed_of (enumerate_from (n + 1) cs)) all) k o at
+client_placed Q n (x ∷ cs) all (suc c) k o at = client_placed Q (n + 1) cs (all_second (λ (p : Placed). Q p.op) (placed_of (n, x)) (flat_map placed_of (enumerate_from (n + 1) cs)) all) c k o at
 
 readable : (s : Script) (bytes : ℕ) (o : Op) → is_in_range_after s bytes o ≡ true → IsReadable s o
 readable s bytes (op.Read d start count) e =
@@ -101,10 +88,6 @@ pub reads_fit : (r : Record) → ReadsFit r.script
 reads_fit r zero k o at = let wrong : ◌≡◌ {A = Option Op} None (Some o) = at in cc
 reads_fit r (suc c) k o at = client_placed (IsReadable r.script) 0 r.script.clients all c k o at
   where
-    none_mapped : {A B : Type 0} (f : A → B) (o : Option A) → option_map f o ≡ None → o ≡ None
-    none_mapped f None e = refl
-    none_mapped f (Some x) e = cc
-
     in_range : first_out_of_range r.script ≡ None
     in_range = none_mapped (λ (p : Placed). Range p.client p.place) (first_out_of_range r.script) (each-none (rule_answers r.script) 10 (option_map (λ (p : Placed). Range p.client p.place) (first_out_of_range r.script)) (unbroken r) refl)
 

@@ -1,8 +1,9 @@
 -- What stands in a table of what is owed, behind a note in it.
-use Rattle.std.proofs.Common.{◌≡◌, ℕ, zero, suc, ◌<◌, ◌==◌, ◌≢◌, Bool, true, false, cond, ◌&&◌, List, [], ◌∷◌, length, set, slice_get, Option, Some, None, option_and_then, option_map, unwrap_or, refl, sym, ap, ◌∙◌, arith, inl, inr}
+use Rattle.std.proofs.Common.{◌≡◌, ℕ, zero, suc, ◌<◌, ◌==◌, Bool, true, false, cond, ◌&&◌, List, [], ◌∷◌, length, set, slice_get, Option, Some, None, option_and_then, option_map, unwrap_or, refl, sym, ap, ◌∙◌, arith, inl, inr}
 use Rattle.std.specs.Global.{Vec}
 use Rattle.std.proofs.lemmas.Bool.{cases_lt, eqb-true, eq-eqb, true≢false}
 use Rattle.std.proofs.lemmas.Option.{slice_get_past, slice_get_within}
+use Rattle.lw_judge_threads.proofs.Written.{slice_get-set_other}
 use Rattle.lw_model.specs.declared.script.Script.{Script}
 use Rattle.lw_model.specs.declared.script.ClientOf.{ClientOf}
 use Rattle.lw_model.specs.declared.record.Replied.{Replied}
@@ -15,19 +16,12 @@ set_here [] i y below = absurd (omega (arith, below))
 set_here (x ∷ xs) zero y below = refl
 set_here (x ∷ xs) (suc i) y below = set_here xs i y (omega (arith, below))
 
-set_there : {X : Type 0} (xs : List X) (i j : ℕ) (y : X) → j ≢ i → slice_get (set xs i y) j ≡ slice_get xs j
-set_there [] i j y apart = refl
-set_there (x ∷ xs) zero zero y apart = absurd (apart refl)
-set_there (x ∷ xs) zero (suc j) y apart = refl
-set_there (x ∷ xs) (suc i) zero y apart = refl
-set_there (x ∷ xs) (suc i) (suc j) y apart = set_there xs i j y (λ e. apart (ap suc e))
-
 slice_get-set : {X : Type 0} (xs : List X) (i j : ℕ) (y : X) → i < length xs → slice_get (set xs i y) j ≡ cond (i == j) (Some y) (slice_get xs j)
 slice_get-set xs i j y below = at (i == j) refl
   where
     at : (b : Bool) → (i == j) ≡ b → slice_get (set xs i y) j ≡ cond b (Some y) (slice_get xs j)
     at true e = ap (slice_get (set xs i y)) (sym (eqb-true i j e)) ∙ set_here xs i y below
-    at false e = set_there xs i j y (λ same. true≢false (sym (eq-eqb i j (sym same)) ∙ e))
+    at false e = slice_get-set_other xs i j y (λ same. true≢false (sym (eq-eqb i j (sym same)) ∙ e))
 
 -- the rows and their places
 abbrev rows_at : List (Vec (Option Replied)) → ℕ → ℕ → Option Replied

@@ -1,6 +1,5 @@
 -- The first line at which a client's replies fail.
 use Rattle.std.proofs.Common.{◌≡◌, ℕ, zero, suc, ◌+◌, ◌<◌, ◌≤◌, ◌^◌, nat_lt, nat_le, Bool, true, false, cond, ◌&&◌, List, [], ◌∷◌, length, drop, map, flat_map, slice_get, Option, Some, None, IfSome, IsTrue, refl, sym, ap, ap₂, ◌∙◌, arith, inl, inr}
-use Rattle.std.specs.Bool.{then_some}
 use Rattle.std.specs.List.{range_with_len}
 use Rattle.std.specs.Prelude.{filter_map}
 use Rattle.std.proofs.lemmas.Bool.{cases_lt, lt-ltb, le-ltb, le-leb, and_from}
@@ -82,7 +81,3 @@ clients_more r n least line before here = ap₂ lesser before (here ∙ ap (λ t
 
 pub client_there : (clients t : ℕ) → 0 < t → t ≤ clients → (nat_lt 0 t && nat_le t clients) ≡ true
 client_there clients t some below = and_from (nat_lt 0 t) (nat_le t clients) (lt-ltb 0 t some) (le-leb t clients below)
-
-pub then_some_is : (b : Bool) (n : ℕ) → then_some b n ≡ cond b (Some n) None
-then_some_is true n = refl
-then_some_is false n = refl

@@ -1,15 +1,16 @@
 -- Lists of what was sent to which messages were put, one after another.
-use Rattle.std.proofs.Common.{◌≡◌, ℕ, zero, suc, ◌+◌, ◌<◌, ◌≤◌, ◌==◌, Bool, true, false, cond, List, [], ◌∷◌, ◌++◌, Vec, Global, map, filter, length, set, slice_get, Option, Some, None, append_assoc, refl, sym, ap, subst, ◌∙◌, arith}
+use Rattle.std.proofs.Common.{◌≡◌, ℕ, zero, suc, ◌+◌, ◌<◌, ◌≤◌, ◌==◌, Bool, true, false, cond, List, [], ◌∷◌, ◌++◌, Vec, Global, map, length, set, slice_get, Option, Some, None, append_assoc, refl, sym, ap, subst, ◌∙◌, arith}
 use Rattle.std.proofs.lemmas.Bool.{eqb-true, eq-eqb, ne_eqb}
 use Rattle.std.proofs.lemmas.Bool.Decides.{nat_tests}
 use Rattle.std.proofs.lemmas.List.{append-nil, map-append}
-use Rattle.std.proofs.lemmas.List.Elements.{filter-append}
 use Rattle.std.proofs.lemmas.Option.{slice_get_within}
+use Rattle.lw_model.specs.Sent.{to_thread}
+use Rattle.lw_model.proofs.SentLists.{to_thread-append}
 use Rattle.lw_base.specs.declared.message.What.{What}
 use Rattle.lw_judge_messages.specs.declared.sends.Sends.{Sends}
 use Rattle.lw_judge_messages.specs.declared.tokens.Token.{Token}
 use Rattle.lw_judge_messages.specs.Tokens.{what_of}
-use Rattle.lw_judge_messages.specs.SendsAt.{items_at, list_at, sent_to, IsSized, Adds}
+use Rattle.lw_judge_messages.specs.SendsAt.{items_at, list_at, IsSized, Adds}
 
 -- ---- the items at a place
 
@@ -68,13 +69,8 @@ module _ (rows : List (Vec (Vec What Global) Global)) (row : Vec (Vec What Globa
 
 -- ---- messages to a thread
 
-pub sent_to-append : (u : ℕ) (ms ns : List (ℕ × What)) → sent_to u (ms ++ ns) ≡ sent_to u ms ++ sent_to u ns
-sent_to-append u ms ns =
-    ap (map (λ (p : ℕ × What). p.1)) (filter-append (λ (p : ℕ × What). p.0 == u) ms ns)
-    ∙ map-append (λ (p : ℕ × What). p.1) (filter (λ p. p.0 == u) ms) (filter (λ p. p.0 == u) ns)
-
-sent_to-one : (u to : ℕ) (w : What) → sent_to u ((to, w) ∷ []) ≡ cond (to == u) (w ∷ []) []
-sent_to-one u to w = at (to == u)
+to_thread-one : (u to : ℕ) (w : What) → to_thread u ((to, w) ∷ []) ≡ cond (to == u) (w ∷ []) []
+to_thread-one u to w = at (to == u)
   where
     at : (b : Bool) → map (λ (p : ℕ × What). p.1) (cond b ((to, w) ∷ []) []) ≡ cond b (w ∷ []) []
     at true = refl
@@ -101,7 +97,7 @@ adds_none n t x sized = record {
 pub adds_nowhere : (n t : ℕ) (ms : List (ℕ × What)) (x : Sends) → n ≤ t → IsSized n x → Adds n t ms [] x x
 adds_nowhere n t ms x past sized = record {
   sized = sized;
-  lists = λ s u below here. sym (ap (λ b. list_at x s u ++ cond b (sent_to u ms) []) (ne_eqb s t (omega (arith, past, below))) ∙ append-nil (list_at x s u));
+  lists = λ s u below here. sym (ap (λ b. list_at x s u ++ cond b (to_thread u ms) []) (ne_eqb s t (omega (arith, past, below))) ∙ append-nil (list_at x s u));
   tokens = sym (append-nil (map what_of x.tokens.items));
 }
 
@@ -109,9 +105,9 @@ pub adds_more : (n t : ℕ) (ms ms' : List (ℕ × What)) (ws ws' : List What) (
 adds_more n t ms ms' ws ws' x y z first then = record {
   sized = then.sized;
   lists = λ s u below here.
-      then.lists s u below here ∙ ap (λ l. l ++ cond (s == t) (sent_to u ms') []) (first.lists s u below here)
-      ∙ append_assoc (list_at x s u) (cond (s == t) (sent_to u ms) []) (cond (s == t) (sent_to u ms') [])
-      ∙ ap (λ l. list_at x s u ++ l) (cond-append (s == t) (sent_to u ms) (sent_to u ms') ∙ ap (λ l. cond (s == t) l []) (sym (sent_to-append u ms ms')));
+      then.lists s u below here ∙ ap (λ l. l ++ cond (s == t) (to_thread u ms') []) (first.lists s u below here)
+      ∙ append_assoc (list_at x s u) (cond (s == t) (to_thread u ms) []) (cond (s == t) (to_thread u ms') [])
+      ∙ ap (λ l. list_at x s u ++ l) (cond-append (s == t) (to_thread u ms) (to_thread u ms') ∙ ap (λ l. cond (s == t) l []) (sym (to_thread-append u ms ms')));
   tokens = then.tokens ∙ ap (λ l. l ++ ws') first.tokens ∙ append_assoc (map what_of x.tokens.items) ws ws';
 }
 
@@ -126,20 +122,20 @@ module _ (n t to : ℕ) (w : What) (x y : Sends) (had row : List (Vec What Globa
       at true e = long ∙ ap length (sym old) ∙ ap (λ q. length (items_at x.lists.items q)) (eqb-true t s e) ∙ sized.each s below
       at false e = sized.each s below
 
-  items : (s u : ℕ) → s < n → u < n → items_at (cond (t == s) row (items_at x.lists.items s)) u ≡ list_at x s u ++ cond (s == t) (sent_to u ((to, w) ∷ [])) []
+  items : (s u : ℕ) → s < n → u < n → items_at (cond (t == s) row (items_at x.lists.items s)) u ≡ list_at x s u ++ cond (s == t) (to_thread u ((to, w) ∷ [])) []
   items s u below here = at (t == s) refl
     where
       other : (s t : ℕ) → t == s ≡ false → (s == t) ≡ false
       other s t e = grind (arith, nat_tests)
 
-      at : (b : Bool) → t == s ≡ b → items_at (cond b row (items_at x.lists.items s)) u ≡ list_at x s u ++ cond (s == t) (sent_to u ((to, w) ∷ [])) []
+      at : (b : Bool) → t == s ≡ b → items_at (cond b row (items_at x.lists.items s)) u ≡ list_at x s u ++ cond (s == t) (to_thread u ((to, w) ∷ [])) []
       at true e =
           let same : t ≡ s = eqb-true t s e in
           let was : had ≡ items_at x.lists.items s = sym old ∙ ap (items_at x.lists.items) same in
           put u (subst (λ l. u < length l) (sym was) (subst (λ k. u < k) (sym (sized.each s below)) here))
           ∙ ap (λ l. items_at l u ++ cond (to == u) (w ∷ []) []) was
-          ∙ ap (λ l. list_at x s u ++ l) (sym (ap (λ b. cond b (sent_to u ((to, w) ∷ [])) []) (eq-eqb s t (sym same)) ∙ sent_to-one u to w))
-      at false e = sym (ap (λ b. list_at x s u ++ cond b (sent_to u ((to, w) ∷ [])) []) (other s t e) ∙ append-nil (list_at x s u))
+          ∙ ap (λ l. list_at x s u ++ l) (sym (ap (λ b. cond b (to_thread u ((to, w) ∷ [])) []) (eq-eqb s t (sym same)) ∙ to_thread-one u to w))
+      at false e = sym (ap (λ b. list_at x s u ++ cond b (to_thread u ((to, w) ∷ [])) []) (other s t e) ∙ append-nil (list_at x s u))
 
   pub adds_one : Adds n t ((to, w) ∷ []) [] x y
   adds_one = record {

@@ -4,7 +4,7 @@ use Rattle.std.specs.List.{list_all, range_with_len}
 use Rattle.std.proofs.lemmas.Bool.{and_from, and_left, and_right, cases_eq}
 use Rattle.std.proofs.lemmas.List.{take_more}
 use Rattle.std.proofs.lemmas.List.Folds.{list_all-append}
-use Rattle.lw_judge_threads.proofs.Leasts.{range_push}
+use Rattle.lw_base.proofs.Lists.{range_push}
 
 -- of the numbers of a range
 pub all_more : (p : ℕ → Bool) (n : ℕ) → list_all p (range_with_len 0 n) ≡ true → p n ≡ true → list_all p (range_with_len 0 (n + 1)) ≡ true

@@ -1,23 +1,20 @@
 -- The tests of what a thread ran, by what is kept of the senders and of the runners.
-use Rattle.std.proofs.Common.{◌≡◌, ℕ, zero, suc, ◌+◌, ◌<◌, ◌≤◌, ◌==◌, nat_lt, nat_le, Bool, true, false, cond, not, ◌&&◌, ◌||◌, List, [], ◌∷◌, ◌++◌, Vec, map, flat_map, filter, length, slice_get, unwrap_or, option_map, Option, Some, None, refl, sym, ap, ap₂, inl, inr, ◌∙◌, arith}
+use Rattle.std.proofs.Common.{◌≡◌, ℕ, zero, suc, ◌+◌, ◌<◌, ◌≤◌, ◌==◌, nat_lt, nat_le, Bool, true, false, cond, not, ◌&&◌, ◌||◌, List, [], ◌∷◌, ◌++◌, Vec, map, flat_map, filter, length, slice_get, Option, Some, None, refl, sym, ap, ap₂, inl, inr, ◌∙◌, arith}
 use Rattle.std.specs.List.{list_all, range_with_len}
-use Rattle.std.proofs.lemmas.Bool.{cases_lt, lt-ltb, lt-leb, ne_eqb, and_right}
+use Rattle.std.proofs.lemmas.Bool.{cases_lt, lt-ltb}
 use Rattle.std.proofs.lemmas.List.{length-map, append-nil}
 use Rattle.std.proofs.lemmas.List.Sums.{length-filter}
 use Rattle.std.proofs.lemmas.Option.{slice_get_past}
 use Rattle.lw_base.specs.declared.message.Tag.{Tag}
 use Rattle.lw_base.specs.declared.message.What.{What}
-use Rattle.lw_model.specs.declared.script.Script.{Script}
 use Rattle.lw_model.specs.declared.record.Record.{Record}
 use Rattle.lw_model.specs.declared.record.ThreadRecord.{ThreadRecord}
-use Rattle.lw_model.specs.OwnOrder.{own_order, own_order_of, with_past}
 use Rattle.lw_model.specs.Threads.{thread_count, threads, is_client, ran_of}
-use Rattle.lw_model.specs.Sent.{sent, sent_by, sent_last, run_of, tokens, must_run}
+use Rattle.lw_model.specs.Sent.{sent, run_of, tokens, must_run}
 use Rattle.lw_model.specs.Lawful.{has_run, is_first_run}
 use Rattle.lw_model.specs.Lines.{thread_line, ran_line}
 use Rattle.lw_model.specs.Same.{both, is_same_what}
 use Rattle.lw_model.specs.Verdict.{Test, each_line, least_failing, is_sent_to, lacks_none}
-use Rattle.lw_model.proofs.Printed.{parts}
 use Rattle.lw_judge_messages.specs.declared.sends.Sends.{Sends}
 use Rattle.lw_judge_messages.specs.declared.tokens.Token.{Token}
 use Rattle.lw_judge_threads.specs.declared.lines.ThreadLines.{ThreadLines}

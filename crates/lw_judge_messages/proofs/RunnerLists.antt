@@ -12,16 +12,13 @@ use Rattle.std.proofs.lemmas.List.Elements.{filter-append}
 use Rattle.lw_base.specs.declared.message.Tag.{Tag}
 use Rattle.lw_base.specs.declared.message.What.{What}
 use Rattle.lw_base.specs.declared.message.What.TheVariants as what
+use Rattle.lw_base.proofs.Lists.{some_same, range_push}
 use Rattle.lw_model.specs.Sent.{is_same_token}
 use Rattle.lw_judge_messages.specs.declared.tokens.Token.{Token}
 use Rattle.lw_judge_messages.specs.declared.tokens.Token.TheVariants as token
 use Rattle.lw_judge_messages.specs.Tokens.{what_of, token_in, is_run, is_last, with_last}
-use Rattle.lw_judge_threads.proofs.Leasts.{range_push}
 
 -- ---- a token and a WHAT
-
-pub some_same : {X : Type 0} {x y : X} → Some x ≡ Some y → x ≡ y
-some_same e = cc
 
 pub what_of-token_in : (v : Token) (m : What) → token_in m ≡ Some v → m ≡ what_of v
 what_of-token_in v (what.Visit o k d) e = ap what_of (some_same e)

@@ -10,13 +10,14 @@ use Rattle.lw_model.specs.declared.record.Record.{Record}
 use Rattle.lw_model.specs.declared.step.Step.{Step}
 use Rattle.lw_model.specs.OwnOrder.{own_order_of}
 use Rattle.lw_model.specs.Threads.{thread_count, clients, is_client}
-use Rattle.lw_model.specs.Sent.{sent, sent_by, sent_last, tokens_started_by}
+use Rattle.lw_model.specs.Sent.{sent, sent_by, sent_last, tokens_started_by, to_thread}
+use Rattle.lw_model.proofs.SentLists.{to_thread-append}
 use Rattle.lw_judge_messages.specs.declared.sends.Sends.{Sends}
 use Rattle.lw_judge_threads.specs.Folded.{folded}
 use Rattle.lw_judge_messages.specs.Tokens.{what_of}
-use Rattle.lw_judge_messages.specs.SendsAt.{list_at, sent_to, sent_so_far, tokens_of, tokens_so_far, IsSized, AreSendsAt, Adds}
+use Rattle.lw_judge_messages.specs.SendsAt.{list_at, sent_so_far, tokens_of, tokens_so_far, IsSized, AreSendsAt, Adds}
 use Rattle.lw_judge_threads.proofs.Folds.{folded-reverse}
-use Rattle.lw_judge_messages.proofs.Added.{cond-append, cond-nil, sent_to-append}
+use Rattle.lw_judge_messages.proofs.Added.{cond-append, cond-nil}
 
 not_below : (s t : ℕ) → nat_lt s t ≡ true → (s == t) ≡ false
 not_below s t e = grind (arith, nat_tests)
@@ -25,19 +26,19 @@ not_below s t e = grind (arith, nat_tests)
 
 module _ (r : Record) (t : ℕ) (past : List Step) (s : Step) (x y : Sends) (are : AreSendsAt r t past x)
     (adds : Adds (thread_count r.script) t (sent_by r t past s) (cond (is_client r.script t) (tokens_started_by r t s) []) x y) where
-  step_list : (q u : ℕ) → sent_so_far r t past q u ++ cond (q == t) (sent_to u (sent_by r t past s)) [] ≡ sent_so_far r t (s ∷ past) q u
+  step_list : (q u : ℕ) → sent_so_far r t past q u ++ cond (q == t) (to_thread u (sent_by r t past s)) [] ≡ sent_so_far r t (s ∷ past) q u
   step_list q u = at (nat_lt q t) refl
     where
-      at : (b : Bool) → nat_lt q t ≡ b → cond b (sent r q u) (cond (q == t) (sent_to u (folded (sent_by r t) past)) []) ++ cond (q == t) (sent_to u (sent_by r t past s)) []
-          ≡ cond b (sent r q u) (cond (q == t) (sent_to u (folded (sent_by r t) past ++ sent_by r t past s)) [])
-      at true e = ap (λ b. sent r q u ++ cond b (sent_to u (sent_by r t past s)) []) (not_below q t e) ∙ append-nil (sent r q u)
-      at false e = cond-append (q == t) (sent_to u (folded (sent_by r t) past)) (sent_to u (sent_by r t past s))
-          ∙ ap (λ l. cond (q == t) l []) (sym (sent_to-append u (folded (sent_by r t) past) (sent_by r t past s)))
+      at : (b : Bool) → nat_lt q t ≡ b → cond b (sent r q u) (cond (q == t) (to_thread u (folded (sent_by r t) past)) []) ++ cond (q == t) (to_thread u (sent_by r t past s)) []
+          ≡ cond b (sent r q u) (cond (q == t) (to_thread u (folded (sent_by r t) past ++ sent_by r t past s)) [])
+      at true e = ap (λ b. sent r q u ++ cond b (to_thread u (sent_by r t past s)) []) (not_below q t e) ∙ append-nil (sent r q u)
+      at false e = cond-append (q == t) (to_thread u (folded (sent_by r t) past)) (to_thread u (sent_by r t past s))
+          ∙ ap (λ l. cond (q == t) l []) (sym (to_thread-append u (folded (sent_by r t) past) (sent_by r t past s)))
 
   pub sends-step : AreSendsAt r t (s ∷ past) y
   sends-step = record {
     sized = adds.sized;
-    lists = λ q u below here. adds.lists q u below here ∙ ap (λ l. l ++ cond (q == t) (sent_to u (sent_by r t past s)) []) (are.lists q u below here) ∙ step_list q u;
+    lists = λ q u below here. adds.lists q u below here ∙ ap (λ l. l ++ cond (q == t) (to_thread u (sent_by r t past s)) []) (are.lists q u below here) ∙ step_list q u;
     tokens =
         let before = flat_map (tokens_of r) (filter (λ q. nat_lt q t) (clients r.script)) in
         let mine = folded (λ (before : List Step) (q : Step). tokens_started_by r t q) past in
@@ -106,11 +107,11 @@ clients_more r t = one_more t 1 (length r.script.clients) ∙ ap (λ b. filter (
 
 module _ (r : Record) (t : ℕ) (past : List Step) (x y : Sends) (is : past ≡ reverse (own_order_of r t)) (are : AreSendsAt r t past x)
     (adds : Adds (thread_count r.script) t (sent_last r.script t) [] x y) where
-  whole : (u : ℕ) → sent_to u (folded (sent_by r t) past) ++ sent_to u (sent_last r.script t) ≡ sent r t u
-  whole u = sym (sent_to-append u (folded (sent_by r t) past) (sent_last r.script t))
-      ∙ ap (λ l. sent_to u (l ++ sent_last r.script t)) (ap (folded (sent_by r t)) is ∙ folded-reverse (sent_by r t) (own_order_of r t))
+  whole : (u : ℕ) → to_thread u (folded (sent_by r t) past) ++ to_thread u (sent_last r.script t) ≡ sent r t u
+  whole u = sym (to_thread-append u (folded (sent_by r t) past) (sent_last r.script t))
+      ∙ ap (λ l. to_thread u (l ++ sent_last r.script t)) (ap (folded (sent_by r t)) is ∙ folded-reverse (sent_by r t) (own_order_of r t))
 
-  last_list : (q u : ℕ) → sent_so_far r t past q u ++ cond (q == t) (sent_to u (sent_last r.script t)) [] ≡ sent_so_far r (t + 1) [] q u
+  last_list : (q u : ℕ) → sent_so_far r t past q u ++ cond (q == t) (to_thread u (sent_last r.script t)) [] ≡ sent_so_far r (t + 1) [] q u
   last_list q u = at (nat_lt q t) refl
     where
       next : (s t : ℕ) → nat_lt s t ≡ true → nat_lt s (t + 1) ≡ true
@@ -119,18 +120,18 @@ module _ (r : Record) (t : ℕ) (past : List Step) (x y : Sends) (is : past ≡ 
       over : (s t : ℕ) → nat_lt s t ≡ false → s ≢ t → nat_lt s (t + 1) ≡ false
       over s t e ne = grind (arith, nat_tests)
 
-      at : (b : Bool) → nat_lt q t ≡ b → cond b (sent r q u) (cond (q == t) (sent_to u (folded (sent_by r t) past)) []) ++ cond (q == t) (sent_to u (sent_last r.script t)) []
+      at : (b : Bool) → nat_lt q t ≡ b → cond b (sent r q u) (cond (q == t) (to_thread u (folded (sent_by r t) past)) []) ++ cond (q == t) (to_thread u (sent_last r.script t)) []
           ≡ cond (nat_lt q (t + 1)) (sent r q u) (cond (q == t + 1) [] [])
-      at true e = ap (λ b. sent r q u ++ cond b (sent_to u (sent_last r.script t)) []) (not_below q t e) ∙ append-nil (sent r q u)
+      at true e = ap (λ b. sent r q u ++ cond b (to_thread u (sent_last r.script t)) []) (not_below q t e) ∙ append-nil (sent r q u)
           ∙ ap (λ b. cond b (sent r q u) (cond (q == t + 1) [] [])) (sym (next q t e))
       at false e = elim (cases_eq q t) [
         | inl same ↦
-            cond-append (q == t) (sent_to u (folded (sent_by r t) past)) (sent_to u (sent_last r.script t))
+            cond-append (q == t) (to_thread u (folded (sent_by r t) past)) (to_thread u (sent_last r.script t))
             ∙ ap₂ (λ b l. cond b l []) (eq-eqb q t same) (whole u ∙ ap (λ k. sent r k u) (sym same))
             ∙ ap (λ b. cond b (sent r q u) (cond (q == t + 1) [] [])) (sym (lt-ltb q (t + 1) (omega (arith, same))))
         | inr ne ↦
-            cond-append (q == t) (sent_to u (folded (sent_by r t) past)) (sent_to u (sent_last r.script t))
-            ∙ ap (λ b. cond b (sent_to u (folded (sent_by r t) past) ++ sent_to u (sent_last r.script t)) []) (ne_eqb q t ne)
+            cond-append (q == t) (to_thread u (folded (sent_by r t) past)) (to_thread u (sent_last r.script t))
+            ∙ ap (λ b. cond b (to_thread u (folded (sent_by r t) past) ++ to_thread u (sent_last r.script t)) []) (ne_eqb q t ne)
             ∙ sym (cond-nil (q == t + 1))
             ∙ ap (λ b. cond b (sent r q u) (cond (q == t + 1) [] [])) (sym (over q t e ne))
       ]
@@ -157,7 +158,7 @@ module _ (r : Record) (t : ℕ) (past : List Step) (x y : Sends) (is : past ≡ 
   pub sends-finish : AreSendsAt r (t + 1) [] y
   sends-finish = record {
     sized = adds.sized;
-    lists = λ q u below here. adds.lists q u below here ∙ ap (λ l. l ++ cond (q == t) (sent_to u (sent_last r.script t)) []) (are.lists q u below here) ∙ last_list q u;
+    lists = λ q u below here. adds.lists q u below here ∙ ap (λ l. l ++ cond (q == t) (to_thread u (sent_last r.script t)) []) (are.lists q u below here) ∙ last_list q u;
     tokens = adds.tokens ∙ append-nil (map what_of x.tokens.items) ∙ are.tokens ∙ last_tokens;
   }
 

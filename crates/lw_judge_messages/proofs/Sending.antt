@@ -4,12 +4,12 @@ use Rattle.std.specs.List.{range_with_len}
 use Rattle.std.proofs.lemmas.List.{map-append}
 use Rattle.lw_base.specs.declared.message.Tag.{Tag}
 use Rattle.lw_base.specs.declared.message.What.{What}
+use Rattle.lw_base.proofs.Lists.{range_push}
 use Rattle.lw_model.specs.declared.record.Record.{Record}
 use Rattle.lw_model.specs.Sent.{sent_by_ran, passed_on, started, first_runner}
 use Rattle.lw_judge_messages.specs.declared.tokens.Token.{Token}
 use Rattle.lw_judge_messages.specs.declared.tokens.Token.TheVariants as token
 use Rattle.lw_judge_messages.specs.Tokens.{what_of}
-use Rattle.lw_judge_threads.proofs.Leasts.{range_push}
 use Rattle.lw_judge_messages.proofs.RunnerLists.{filter-range_push}
 
 pub sent_by_ran-token : (r : Record) (t : ℕ) (m : Tag) (v : Token) → m.what ≡ what_of v → sent_by_ran r t m ≡ passed_on r t (what_of v)

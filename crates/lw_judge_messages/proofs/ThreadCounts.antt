@@ -1,6 +1,7 @@
 -- A record has few threads.
-use Rattle.std.proofs.Common.{◌≡◌, ◌≤◌, nat_le, true, length, Option, None, Some, is_none, refl, arith}
-use Rattle.std.proofs.lemmas.Bool.{and_parts, leb-true, false≢true}
+use Rattle.std.proofs.Common.{◌≡◌, ◌≤◌, nat_le, length, None, refl, arith}
+use Rattle.std.proofs.lemmas.Bool.{and_parts, leb-true}
+use Rattle.lw_base.proofs.Lists.{none_is}
 use Rattle.lw_model.specs.declared.script.Script.{Script}
 use Rattle.lw_model.specs.declared.record.Record.{Record}
 use Rattle.lw_model.specs.declared.refusal.ScriptRefusal.TheVariants.{Limit}
@@ -8,7 +9,6 @@ use Rattle.lw_model.specs.ScriptRules.{rule_answers, rule_broken, has_client_cou
 use Rattle.lw_model.specs.Threads.{thread_count}
 use Rattle.lw_model.proofs.Rules.{kept, image_count-kept}
 use Rattle.lw_model.proofs.Printed.{parts}
-use Rattle.lw_judge_threads.proofs.Named.{none_from}
 
 few : (s : Script) → rule_broken s ≡ None → thread_count s ≤ 81
 few s e =
@@ -18,4 +18,4 @@ few s e =
 
 -- the app, at most 64 clients and at most 16 owners
 pub few_threads : (r : Record) → thread_count r.script ≤ 81
-few_threads r = few r.script (none_from (rule_broken r.script) (parts r).script)
+few_threads r = few r.script (none_is (rule_broken r.script) (parts r).script)

@@ -1,5 +1,5 @@
 -- What a visit found, with one step more.
-use Rattle.std.proofs.Common.{◌≡◌, ◌≢◌, ℕ, ◌≤◌, ◌<◌, ◌++◌, Bool, true, false, not, ◌==◌, cond, List, [], ◌∷◌, length, Option, Some, None, option_and_then, option_to_list, filter_map, is_some, IfSome, nat_eq, refl, sym, ap, ap₂, subst, ◌∙◌, inl, inr, arith}
+use Rattle.std.proofs.Common.{◌≡◌, ◌≢◌, ℕ, ◌≤◌, ◌<◌, ◌++◌, Bool, true, false, not, ◌==◌, cond, List, ◌∷◌, length, Option, Some, None, option_and_then, option_to_list, filter_map, is_some, IfSome, nat_eq, refl, sym, ap, ap₂, subst, ◌∙◌, inl, inr, arith}
 use Rattle.std.specs.Option.{option_eq}
 use Rattle.std.specs.List.{range_with_len}
 use Rattle.std.proofs.lemmas.Bool.{eq-eqb, true≢false, false≢true}
@@ -7,6 +7,7 @@ use Rattle.std.proofs.lemmas.List.{append-nil}
 use Rattle.lw_base.specs.declared.message.Mark.{Mark}
 use Rattle.lw_base.specs.declared.message.Tag.{Tag}
 use Rattle.lw_base.specs.declared.message.What.{What}
+use Rattle.lw_base.proofs.Lists.{some_same}
 use Rattle.lw_model.specs.declared.record.Record.{Record}
 use Rattle.lw_model.specs.declared.script.Script.{Script}
 use Rattle.lw_model.specs.declared.step.Step.{Step}
@@ -21,7 +22,7 @@ use Rattle.lw_judge_messages.specs.declared.visits.Marks.{Marks}
 use Rattle.lw_judge_messages.specs.Tokens.{token_in, what_of}
 use Rattle.lw_judge_messages.specs.MarksAt.{AreMarksAt, IsVisitAt, HasRun, first_mark, last_under, mark_at, marks_under, ran_by}
 use Rattle.lw_judge_messages.proofs.VisitResults.{image_there}
-use Rattle.lw_judge_messages.proofs.RunnerLists.{some_same, same_itself, same_none, token_cases, what_of-token_in}
+use Rattle.lw_judge_messages.proofs.RunnerLists.{same_itself, same_none, token_cases, what_of-token_in}
 
 -- a step that doesn't run the token changes nothing
 other_step : (s : Script) (t : ℕ) (w : What) (d : ℕ) (past : List Step) (x : Step) → runs (is_same_token w) x ≡ false → first_mark s t w d (x ∷ past) ≡ first_mark s t w d past

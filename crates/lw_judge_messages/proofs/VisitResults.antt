@@ -8,6 +8,7 @@ use Rattle.lw_base.specs.declared.message.Mark.{Mark}
 use Rattle.lw_base.specs.declared.message.Tag.{Tag}
 use Rattle.lw_base.specs.declared.message.What.{What}
 use Rattle.lw_base.specs.declared.message.What.TheVariants as what
+use Rattle.lw_base.proofs.Lists.{some_same}
 use Rattle.lw_model.specs.declared.record.Record.{Record}
 use Rattle.lw_model.specs.declared.record.Seen.{Seen}
 use Rattle.lw_model.specs.declared.record.SeenBy.TheVariants as by
@@ -27,7 +28,6 @@ use Rattle.lw_judge_messages.specs.declared.tokens.Token.TheVariants as token
 use Rattle.lw_judge_messages.specs.declared.visits.Marks.{Marks}
 use Rattle.lw_judge_messages.specs.MarksAt.{AreMarksAt, mark_at, marks_under}
 use Rattle.lw_judge_threads.proofs.Named.{op_named}
-use Rattle.lw_judge_messages.proofs.RunnerLists.{some_same}
 
 -- ---- The image of an op is there
 

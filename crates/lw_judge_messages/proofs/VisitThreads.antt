@@ -7,6 +7,7 @@ use Rattle.std.proofs.lemmas.List.Elements.{filter_map-append}
 use Rattle.std.proofs.lemmas.Bool.Decides.{nat_tests}
 use Rattle.lw_base.specs.declared.message.Mark.{Mark}
 use Rattle.lw_base.specs.declared.message.What.{What}
+use Rattle.lw_base.proofs.Lists.{range_push}
 use Rattle.lw_model.specs.declared.record.Record.{Record}
 use Rattle.lw_model.specs.declared.script.Script.{Script}
 use Rattle.lw_model.specs.declared.step.Step.{Step}
@@ -21,7 +22,6 @@ use Rattle.lw_judge_messages.specs.declared.tokens.Token.TheVariants as token
 use Rattle.lw_judge_messages.specs.declared.visits.Marks.{Marks}
 use Rattle.lw_judge_messages.specs.Tokens.{what_of}
 use Rattle.lw_judge_messages.specs.MarksAt.{AreMarksAt, IsVisitAt, first_mark, last_under, mark_at}
-use Rattle.lw_judge_threads.proofs.Leasts.{range_push}
 
 -- the first of two, where it is there
 abbrev or_else : Option (Option Mark) → Option (Option Mark) → Option (Option Mark)

@@ -6,7 +6,7 @@ use Rattle.lw_model.specs.declared.record.Record.{Record}
 use Rattle.lw_model.specs.declared.step.Step.{Step}
 use Rattle.lw_model.specs.OwnOrder.{history}
 use Rattle.lw_model.specs.Threads.{thread_count, clients, is_client}
-use Rattle.lw_model.specs.Sent.{sent, sent_by, tokens_started_by}
+use Rattle.lw_model.specs.Sent.{sent, sent_by, tokens_started_by, to_thread}
 use Rattle.lw_judge_messages.specs.declared.sends.Sends.{Sends}
 use Rattle.lw_judge_threads.specs.Folded.{folded}
 use Rattle.lw_judge_messages.specs.Tokens.{what_of}
@@ -19,13 +19,9 @@ items_at vs i = elim (slice_get vs i) [ None ↦ [] | Some v ↦ v.items ]
 abbrev pub list_at : Sends → ℕ → ℕ → List What
 list_at x s u = items_at (items_at x.lists.items s) u
 
--- of messages with their receivers, those to thread u
-abbrev pub sent_to : ℕ → List (ℕ × What) → List What
-sent_to u ms = map (λ p. p.1) (filter (λ p. p.0 == u) ms)
-
 -- what thread s sent to thread u, where the threads below t have come to their end, and t behind the steps of `past`
 abbrev pub sent_so_far : Record → ℕ → List Step → ℕ → ℕ → List What
-sent_so_far r t past s u = cond (nat_lt s t) (sent r s u) (cond (s == t) (sent_to u (folded (sent_by r t) past)) [])
+sent_so_far r t past s u = cond (nat_lt s t) (sent r s u) (cond (s == t) (to_thread u (folded (sent_by r t) past)) [])
 
 -- the tokens that thread t started
 abbrev pub tokens_of : Record → ℕ → List What
@@ -50,5 +46,5 @@ pub record AreSendsAt (r : Record) (t : ℕ) (past : List Step) (x : Sends) : Ty
 -- of n threads, thread t sent these messages more, and these tokens more were started
 pub record Adds (n t : ℕ) (ms : List (ℕ × What)) (ws : List What) (old new : Sends) : Type 0 where
   pub sized : IsSized n new
-  pub lists : (s u : ℕ) → s < n → u < n → list_at new s u ≡ list_at old s u ++ cond (s == t) (sent_to u ms) []
+  pub lists : (s u : ℕ) → s < n → u < n → list_at new s u ≡ list_at old s u ++ cond (s == t) (to_thread u ms) []
   pub tokens : map what_of new.tokens.items ≡ map what_of old.tokens.items ++ ws

@@ -1,5 +1,5 @@
 -- What the steps of a thread add up to, whether they are seen forwards or from the last one back.
-use Rattle.std.proofs.Common.{◌≡◌, List, [], ◌∷◌, ◌++◌, flat_map, reverse, append_assoc, refl, sym, ap, ◌∙◌}
+use Rattle.std.proofs.Common.{◌≡◌, List, [], ◌∷◌, ◌++◌, flat_map, reverse, append_assoc, sym, ap, ◌∙◌}
 use Rattle.std.proofs.lemmas.List.{append-nil, reverse-append}
 use Rattle.lw_model.specs.declared.step.Step.{Step}
 use Rattle.lw_model.specs.OwnOrder.{with_past}

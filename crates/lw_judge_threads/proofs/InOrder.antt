@@ -4,6 +4,7 @@ use Rattle.std.specs.List.{AllByRecursion}
 use Rattle.std.specs.List.Sorted.{ties, IsNonDecreasingBy, IsStableByKey}
 use Rattle.std.proofs.lemmas.Bool.{leb-true}
 use Rattle.std.proofs.lemmas.Bool.Decides.{nat_tests}
+use Rattle.lw_base.proofs.Lists.{heads, tails}
 use Rattle.lw_model.specs.declared.step.Step.{Step}
 use Rattle.lw_model.specs.OwnOrder.{in_order, put_in, at_of}
 
@@ -121,12 +122,6 @@ none_below x (y ∷ ys) z zs e a all = at (same_at x y) refl e
                 again : (b : Bool) → same_at x w ≡ b → cond b (w ∷ filter (same_at x) ws) (filter (same_at x) ws) ≡ z ∷ zs → (filter (same_at x) ws ≡ z ∷ zs → a ≤ at_of x) → a ≤ at_of x
                 again true is e more = omega (arith, all.0, same_at-true x w is)
                 again false is e more = more e
-
-heads : {x y : Step} {xs ys : List Step} → x ∷ xs ≡ y ∷ ys → x ≡ y
-heads e = cc
-
-tails : {x y : Step} {xs ys : List Step} → x ∷ xs ≡ y ∷ ys → xs ≡ ys
-tails e = cc
 
 rest_tied : (x : Step) (xs ys : List Step) → AreTied (x ∷ xs) (x ∷ ys) → AreTied xs ys
 rest_tied x xs ys tied z = at (same_at z x) (tied z)

@@ -1,8 +1,10 @@
 -- The first failing line of tests that stand one list behind another.
-use Rattle.std.proofs.Common.{◌≡◌, ℕ, zero, suc, ◌+◌, ◌≤◌, min, Bool, true, false, cond, List, [], ◌∷◌, ◌++◌, ◌&&◌, nat_lt, length, map, flat_map, append_assoc, Option, Some, None, refl, sym, ap, ◌∙◌, arith}
+use Rattle.std.proofs.Common.{◌≡◌, ℕ, suc, ◌+◌, ◌≤◌, min, Bool, true, false, cond, List, [], ◌∷◌, ◌++◌, ◌&&◌, nat_lt, length, map, flat_map, Option, Some, None, refl, sym, ap, ◌∙◌, arith}
 use Rattle.std.specs.List.{enumerate_from, range_with_len, list_all, AllByRecursion}
 use Rattle.std.proofs.lemmas.Bool.Decides.{nat_tests}
 use Rattle.std.proofs.lemmas.List.{append-nil}
+use Rattle.std.proofs.lemmas.Grind.{flat_map-append}
+use Rattle.lw_base.proofs.Lists.{range_push}
 use Rattle.lw_model.specs.OwnOrder.{with_past}
 use Rattle.lw_model.specs.Verdict.{Test, least_failing, each_line, against}
 use Rattle.lw_model.specs.Same.{both}
@@ -57,17 +59,6 @@ pub least-cons : (l : ℕ) (b : Bool) (ts : List Test) → least_failing ((l, b)
 least-cons l b ts = least-append ((l, b) ∷ []) ts ∙ ap (λ o. lesser o (least_failing ts)) (least-one l b)
 
 -- ---- The tests of each number of a range
-
-pub range_push : (a n : ℕ) → range_with_len a (n + 1) ≡ range_with_len a n ++ (a + n) ∷ []
-range_push a zero = ap (λ k. k ∷ []) (omega arith)
-range_push a (suc n) = ap (range_with_len a) next ∙ ap (λ l. a ∷ l) (range_push (a + 1) n) ∙ ap (λ k. a ∷ (range_with_len (a + 1) n ++ k ∷ [])) (omega arith)
-  where
-    next : suc n + 1 ≡ suc (n + 1)
-    next = omega arith
-
-flat_map-append : {X Y : Type 0} (f : X → List Y) (xs ys : List X) → flat_map f (xs ++ ys) ≡ flat_map f xs ++ flat_map f ys
-flat_map-append f [] ys = refl
-flat_map-append f (x ∷ xs) ys = ap (λ l. f x ++ l) (flat_map-append f xs ys) ∙ sym (append_assoc (f x) (flat_map f xs) (flat_map f ys))
 
 -- the first failing line of the numbers of a range, with the next number's
 pub least_push : (f : ℕ → List Test) (a n : ℕ) → least_failing (flat_map f (range_with_len a (n + 1))) ≡ lesser (least_failing (flat_map f (range_with_len a n))) (least_failing (f (a + n)))

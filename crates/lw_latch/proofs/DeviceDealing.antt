@@ -9,14 +9,10 @@ use Rattle.atomic_table.proofs.Lists.{at_set, at_snoc, set_else}
 use Rattle.lw_latch.specs.declared.device_view.DeviceView.{DeviceView}
 use Rattle.lw_base.specs.Totals.{total}
 use Rattle.lw_latch.specs.OwnLine.{latch_word, alone}
-use Rattle.lw_latch.specs.DeviceWord.{seats, given_count, backing_count, begun_count, count, opens, opens_then, fired_count, held_count, open_count, times, times_given, Suits, Tied, idle_view, one_seat, less_one_seat, both_views, spent_device, Sat, LearnsAll}
-use Rattle.lw_base.proofs.Totals.{total_set, total_snoc, at_le}
+use Rattle.lw_latch.specs.DeviceWord.{seats, given_count, backing_count, begun_count, count, opens, opens_then, fired_count, held_count, open_count, times_given, Suits, Tied, idle_view, one_seat, less_one_seat, both_views, spent_device, Sat, LearnsAll}
+use Rattle.lw_base.proofs.Totals.{total_set, total_snoc, at_le, times_append}
 use Rattle.lw_latch.proofs.DeviceMoves.{reads, moved}
 use Rattle.lw_latch.proofs.DeviceTelling.{tells}
-
-times_append : (k : ℕ) (xs ys : List ℕ) → times k (xs ++ ys) ≡ times k xs + times k ys
-times_append k [] ys = omega arith
-times_append k (x ∷ xs) ys = let r = times_append k xs ys in omega arith
 
 pub splits : (all id : ℕ) (v : DeviceView) → 2 ≤ v.seats → v ≡ idle_view v.all v.seats → Splits (Tied all) id v (less_one_seat v) (one_seat v)
 splits all id v some_seats idle s h at =

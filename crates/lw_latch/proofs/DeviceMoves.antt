@@ -7,9 +7,9 @@ use lib.ListN.{get_elem?}
 use Rattle.atomic_table.specs.Table.{State, keeps, stepped, opening}
 use Rattle.atomic_table.proofs.Lists.{at_set, at_snoc}
 use Rattle.lw_latch.specs.declared.device_view.DeviceView.{DeviceView}
-use Rattle.lw_base.specs.Totals.{total}
+use Rattle.lw_base.specs.Totals.{total, times}
 use Rattle.lw_latch.specs.OwnLine.{latch_word, alone}
-use Rattle.lw_latch.specs.DeviceWord.{most_seats, most_gives, given_unit, word_given, seats, given_count, backing_count, begun_count, count, opens, opens_then, fired_count, held_count, open_count, times, times_given, device_word, Suits, Tied, first_view, shut_bit}
+use Rattle.lw_latch.specs.DeviceWord.{most_seats, most_gives, given_unit, word_given, seats, given_count, backing_count, begun_count, count, opens, opens_then, fired_count, held_count, open_count, times_given, device_word, Suits, Tied, first_view, shut_bit}
 use Rattle.lw_base.proofs.Totals.{total_set, total_le, total_scaled, total_zero}
 
 abbrev pub St : Type 0

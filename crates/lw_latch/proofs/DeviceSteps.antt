@@ -7,9 +7,9 @@ use lib.ListN.{get_elem?}
 use Rattle.atomic_table.specs.Table.{keeps, step, stepped, Allows}
 use Rattle.atomic_table.proofs.Lists.{at_set}
 use Rattle.lw_latch.specs.declared.device_view.DeviceView.{DeviceView}
-use Rattle.lw_base.specs.Totals.{total}
+use Rattle.lw_base.specs.Totals.{total, times}
 use Rattle.lw_latch.specs.OwnLine.{latch_word, alone}
-use Rattle.lw_latch.specs.DeviceWord.{most_gives, open_unit, giving, seats, given_count, backing_count, begun_count, fired_count, open_count, times, times_given, device_word, Suits, Tied, shut_bit, word_given, view_given, view_not_given, view_visiting, view_usable, view_found, Sat, Gives, TakesBack, Holds, LetsGo, Releases, Unholds, LooksAtShut}
+use Rattle.lw_latch.specs.DeviceWord.{most_gives, open_unit, giving, seats, given_count, backing_count, begun_count, fired_count, open_count, times_given, device_word, Suits, Tied, shut_bit, word_given, view_given, view_not_given, view_visiting, view_usable, view_found, Sat, Gives, TakesBack, Holds, LetsGo, Releases, Unholds, LooksAtShut}
 use Rattle.lw_base.proofs.Totals.{total_set, at_le}
 use Rattle.lw_latch.proofs.DeviceMoves.{St, bounded, reads, moved}
 use Rattle.lw_latch.proofs.DeviceTelling.{tells}

@@ -5,9 +5,9 @@ use mathlib.Core.Logic.{dite}
 use native.Mathlib.Decide.{ℕ_discrete}
 use lib.ListN.{get_elem?}
 use Rattle.lw_latch.specs.declared.device_view.DeviceView.{DeviceView}
-use Rattle.lw_base.specs.Totals.{total}
+use Rattle.lw_base.specs.Totals.{total, times}
 use Rattle.lw_latch.specs.OwnLine.{latch_word}
-use Rattle.lw_latch.specs.DeviceWord.{fired_unit, word_given, closing_word, seats, given_count, backing_count, begun_count, count, opens, opens_then, fired_count, held_count, open_count, times, times_given, Tied, Tells, StandsForAll}
+use Rattle.lw_latch.specs.DeviceWord.{fired_unit, word_given, closing_word, seats, given_count, backing_count, begun_count, count, opens, opens_then, fired_count, held_count, open_count, times_given, Tied, Tells, StandsForAll}
 use Rattle.lw_base.proofs.Totals.{total_only, others_none}
 use Rattle.lw_latch.proofs.DeviceMoves.{St, bounded, reads}
 

@@ -3,9 +3,9 @@ use Rattle.std.specs.Prelude.{◌≡◌, ◌⊎◌, ℕ, ◌+◌, ◌<◌, ◌�
 use Rattle.atomic_table.specs.Seated.{TableId}
 use Rattle.atomic_table.specs.declared.shared.Seat.{Seat}
 use Rattle.lw_latch.specs.declared.device_view.DeviceView.{DeviceView}
-use Rattle.lw_base.specs.Totals.{total}
+use Rattle.lw_base.specs.Totals.{total, times}
 use Rattle.lw_latch.specs.OwnLine.{table_words}
-use Rattle.lw_latch.specs.DeviceWord.{above_all_given, idle_view, both_views, times, held_count}
+use Rattle.lw_latch.specs.DeviceWord.{above_all_given, idle_view, both_views, held_count}
 
 -- which latch, and how many seats it was made with
 pub record DeviceLatch : Type 0 where

@@ -5,7 +5,7 @@ use mathlib.Core.Option.{some}
 use lib.ListN.{get_elem?}
 use Rattle.atomic_table.specs.Table.{State, Me, Step}
 use Rattle.lw_latch.specs.declared.device_view.DeviceView.{DeviceView}
-use Rattle.lw_base.specs.Totals.{total}
+use Rattle.lw_base.specs.Totals.{total, times}
 use Rattle.lw_latch.specs.OwnLine.{alone}
 
 -- the most seats of a latch
@@ -72,11 +72,6 @@ held_count v = v.channel + v.visit
 -- what a view counts among the open ones: what it has, and what it is taking back
 abbrev pub open_count : DeviceView → ℕ
 open_count v = v.channel + v.visit + v.backing + v.leaving
-
--- how often a number is among these
-abbrev pub times : ℕ → List ℕ → ℕ
-times k [] = 0
-times k (x ∷ xs) = (if x == k then 1 else 0) + times k xs
 
 -- how often a view was given an ordinal
 abbrev pub times_given : ℕ → DeviceView → ℕ

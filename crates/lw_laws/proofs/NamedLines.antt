@@ -2,8 +2,10 @@
 use Rattle.std.proofs.Common.{◌≡◌, ℕ, zero, suc, ◌+◌, ◌%◌, ◌<◌, ◌≤◌, ◌==◌, nat_le, Bool, true, false, cond, not, ◌&&◌, ◌||◌, inl, inr, List, [], ◌∷◌, ◌++◌, codes, decimal, map, filter, filter_map, flat_map, length, slice_get, unwrap_or, option_map, bytes_eq, Option, Some, None, refl, sym, ap, subst, ◌∙◌, arith}
 use Rattle.std.specs.List.{list_all, list_any, AllByRecursion, enumerate_from, range_with_len}
 use Rattle.std.proofs.lemmas.Bool.{eqb-true}
+use Rattle.std.proofs.lemmas.Option.{slice_get_within}
 use Rattle.lw_base.specs.Limits.{standard}
 use Rattle.lw_base.specs.declared.moves.Round.{Round}
+use Rattle.lw_base.proofs.Lists.{get_within}
 use Rattle.lw_model.specs.declared.record.Called.{Called}
 use Rattle.lw_model.specs.declared.record.Did.{Did}
 use Rattle.lw_model.specs.declared.record.Record.{Record}
@@ -33,16 +35,6 @@ use Rattle.lw_laws.specs.NamedLines.{words_of, IsLineOf}
 use Rattle.lw_laws.proofs.LineLemmas.{lines_stand}
 
 -- ---- items by their places
-
-there_below : {X : Type 0} (xs : List X) (k : ℕ) → k < length xs → (x : X) × (slice_get xs k ≡ Some x)
-there_below [] k h = absurd (omega (arith, h))
-there_below (x ∷ xs) zero h = (x, refl)
-there_below (x ∷ xs) (suc k) h = there_below xs k (omega (arith, h))
-
-below_there : {X : Type 0} (xs : List X) (k : ℕ) (x : X) → slice_get xs k ≡ Some x → k < length xs
-below_there [] k x e = let wrong : None ≡ Some x = e in cc
-below_there (y ∷ xs) zero x e = omega arith
-below_there (y ∷ xs) (suc k) x e = let rest : k < length xs = below_there xs k x e in omega (arith, rest)
 
 none_there : {X : Type 0} (xs : List X) (k : ℕ) → slice_get xs k ≡ None → length xs ≤ k
 none_there [] k e = omega arith
@@ -125,10 +117,10 @@ module _ (r : Record) where
 
   -- each thread of the script is there, with its line
   thread_there : (t : ℕ) → t < 0 + thread_count r.script → (x : ThreadRecord) × (slice_get r.threads t ≡ Some x)
-  thread_there t h = there_below r.threads t (omega (arith, h, (parts r).threads))
+  thread_there t h = get_within r.threads t (omega (arith, h, (parts r).threads))
 
   client_there : (t : ℕ) → t < 1 + length r.script.clients → (x : ThreadRecord) × (slice_get r.threads t ≡ Some x)
-  client_there t h = there_below r.threads t (omega (arith, h, (parts r).threads))
+  client_there t h = get_within r.threads t (omega (arith, h, (parts r).threads))
 
   thread_line : (words : List (List ℕ)) → list_any (λ w. bytes_eq w (codes "thread")) words ≡ true → (t : ℕ) (x : ThreadRecord) → slice_get r.threads t ≡ Some x → IsLineOf r words (number.thread_line r t)
   thread_line words known t x e = record { word = codes "thread"; rest = decimal t ∷ text.role_word x.role ∷ decimal x.home ∷ []; known = known; stands = stand.thread t x e }
@@ -152,7 +144,7 @@ module _ (r : Record) where
 
   steps_named : (t : ℕ) (past ss : List Step) → AllByRecursion (IsPlaced r t) ss → OfLines (Named 3) (flat_map (λ p. step_test r t p.0 p.1) (with_past past ss))
   steps_named t past [] h = tt
-  steps_named t past (step.Did i x ∷ ss) h = let d = there_below (did_of r t) i h.0 in (did_named t i d.0 d.1, steps_named t (step.Did i x ∷ past) ss h.1)
+  steps_named t past (step.Did i x ∷ ss) h = let d = get_within (did_of r t) i h.0 in (did_named t i d.0 d.1, steps_named t (step.Did i x ∷ past) ss h.1)
   steps_named t past (step.Called i c ∷ ss) h = steps_named t (step.Called i c ∷ past) ss h.1
   steps_named t past (step.Ran i m ∷ ss) h = steps_named t (step.Ran i m ∷ past) ss h.1
 
@@ -201,7 +193,7 @@ module _ (r : Record) where
 
   device_named : (d : ℕ) → d < 0 + length r.script.images → Named 6 (number.device_line r d)
   device_named d h =
-      let x = there_below r.devices d (omega (arith, h, (parts r).devices)) in
+      let x = get_within r.devices d (omega (arith, h, (parts r).devices)) in
       record { word = codes "device"; rest = decimal d ∷ decimal x.0.given ∷ decimal x.0.thread ∷ decimal x.0.callbacks ∷ []; known = refl; stands = stand.devices d x.0 x.1 }
 
   devices_named : OfLines (Named 6) (devices r)
@@ -256,7 +248,7 @@ module _ (r : Record) where
         at : (o : Option Round) → slice_get r.rounds (suc j) ≡ o → Named 8 (number.round_line r (suc j))
         at (Some y) there = round_line (suc j) y there
         at None none =
-            let below : j < length r.rounds = below_there r.rounds j x e in
+            let below : j < length r.rounds = slice_get_within r.rounds j x e in
             let past : length r.rounds ≤ suc j = none_there r.rounds (suc j) none in
             subst (Named 8) (sym ((stand.behind s is j x e).home (omega (arith, below, past)))) (home_line (words_of 8) refl)
 

@@ -26,7 +26,8 @@ is_line (step.Ran i m) = true
 abbrev pub without : List Step → List Step
 without past = filter is_line past
 
-any_without : (p : Step → Bool) → ((i : ℕ) (x : Called) → p (step.Called i x) ≡ false) → (past : List Step) → list_any p past ≡ list_any p (without past)
+-- tests that don't hold of callbacks
+pub any_without : (p : Step → Bool) → ((i : ℕ) (x : Called) → p (step.Called i x) ≡ false) → (past : List Step) → list_any p past ≡ list_any p (without past)
 any_without p skips [] = refl
 any_without p skips (step.Did i x ∷ past) = ap (λ b. p (step.Did i x) || b) (any_without p skips past)
 any_without p skips (step.Called i x ∷ past) = ap (λ b. b || list_any p past) (skips i x) ∙ any_without p skips past

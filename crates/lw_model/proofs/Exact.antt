@@ -1,9 +1,10 @@
 -- The tests of each rule hold exactly where the rule does.
-use Rattle.std.proofs.Common.{◌≡◌, ℕ, ◌%◌, ◌≤◌, ◌==◌, nat_le, Bool, true, false, ◌&&◌, List, [], ◌∷◌, ◌++◌, map, length, Some, refl, ap, ap₂, ◌∙◌, filter_map, Decides, IsTrue}
+use Rattle.std.proofs.Common.{◌≡◌, ℕ, ◌%◌, ◌≤◌, ◌==◌, nat_le, Bool, true, ◌&&◌, List, [], ◌∷◌, ◌++◌, map, length, Some, refl, ap, ap₂, ◌∙◌, filter_map, Decides, IsTrue}
 use Rattle.std.specs.List.{list_all, flat_map}
 use Rattle.std.proofs.lemmas.List.Folds.{list_all-append}
 use Rattle.std.proofs.lemmas.Bool.{leb-true, le-leb}
 use Rattle.std.proofs.lemmas.Bool.Decides.{Decides-at, Decides-like, Decides-and, Decides-eqb}
+use Rattle.lw_base.proofs.Bools.{and_true}
 use Rattle.lw_model.specs.declared.record.Record.{Record}
 use Rattle.lw_model.specs.Threads.{ran_of, did_of}
 use Rattle.lw_model.specs.declared.step.Step.{Step}
@@ -42,10 +43,6 @@ numbers-exact r = Decides-each_thread r (λ t. each_line (ran_line r t) number_f
 -- the test of a step is whether it fits
 step_one : (r : Record) (t : ℕ) (past : List Step) (s : Step) → passes (step_test r t past s) ≡ step_fits r t past s
 step_one r t past (step.Did i x) = and_true (did_fits r t past i x)
-  where
-    and_true : (b : Bool) → (b && true) ≡ b
-    and_true true = refl
-    and_true false = refl
 step_one r t past (step.Called i x) = refl
 step_one r t past (step.Ran i m) = refl
 

@@ -4,6 +4,7 @@ use Rattle.std.specs.List.{list_all, list_any}
 use Rattle.std.proofs.lemmas.Bool.{and_parts, and_from, eqb-true, eq-eqb, ne_eqb, cases_eq}
 use Rattle.std.proofs.lemmas.Bool.Decides.{Decides-at, Decides-like, Decides-and, Decides-eqb}
 use lib.Pointwise.{pointwise, pointwise_decides, bytes_decides}
+use Rattle.lw_base.proofs.Bools.{and_assoc}
 use Rattle.lw_model.specs.declared.record.Record.{Record}
 use Rattle.lw_model.specs.Threads.{images, is_on}
 use Rattle.lw_model.specs.OwnOrder.{own_order_of, history}
@@ -73,10 +74,6 @@ device-exact r d line =
     (λ t. Decides-one line (list_all (λ p. refusal_fits r d t p.0 p.1) (history r t)) (Decides-itself (list_all (λ p. refusal_fits r d t p.0 p.1) (history r t))))))
     (Decides-each_client r (λ t. (line, app_refuses_none r d t) ∷ []) (λ t. (device_at r d).thread ≡ 0 → IsTrue (not (list_any (says (is_on r.script t d) is_refusal) (own_order_of r t))))
     (λ t. Decides-one line (app_refuses_none r d t) (refuses r d t)))))))))
-  where
-    and_assoc : (a b c : Bool) → (a && (b && c)) ≡ ((a && b) && c)
-    and_assoc true b c = refl
-    and_assoc false b c = refl
 
 pub devices-exact : (r : Record) → Decides (passes (devices r)) (Devices r)
 devices-exact r = Decides-at (passes (devices r)) (list_all (λ d. passes (device_tests r d (device_line r d))) (images r.script))

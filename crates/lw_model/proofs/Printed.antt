@@ -1,11 +1,15 @@
 -- What the rule of the type of records says, part by part.
-use Rattle.std.proofs.Common.{◌≡◌, ◌+◌, ◌==◌, true, ◌&&◌, length, is_none}
+use Rattle.std.proofs.Common.{◌≡◌, ◌+◌, ◌==◌, true, false, ◌&&◌, List, [], ◌∷◌, length, is_none, refl}
 use Rattle.std.specs.List.{list_all, enumerate_from}
 use Rattle.std.proofs.lemmas.Bool.{and_parts, eqb-true}
 use Rattle.lw_model.specs.declared.record.Record.{Record}
 use Rattle.lw_model.specs.ScriptRules.{rule_broken, is_within}
-use Rattle.lw_model.specs.Printable.{is_printable_thread, has_rounds}
+use Rattle.lw_model.specs.Printable.{is_empty, is_printable_thread, has_rounds}
 use Rattle.lw_model.specs.Threads.{thread_count}
+
+pub empty_is : {X : Type 0} (xs : List X) → is_empty xs ≡ true → xs ≡ []
+empty_is [] h = refl
+empty_is (x ∷ xs) h = let wrong : false ≡ true = h in cc
 
 pub record Parts (r : Record) : Type 0 where
   pub script : is_none (rule_broken r.script) ≡ true

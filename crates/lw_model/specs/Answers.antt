@@ -136,6 +136,10 @@ abbrev pub at_fits : ℕ → List ℕ → ℕ → Bool
 at_fits most [] a = nat_le a most
 at_fits most (b ∷ past) a = nat_le b a && nat_le a most
 
+-- each of these numbers is not below the one before it, and at most `most`
+abbrev pub ats_ascend : ℕ → List ℕ → Bool
+ats_ascend most ats = list_all (λ p. at_fits most p.0 p.1) (with_past [] ats)
+
 -- the callbacks that were made on a thread
 abbrev pub called_of : Record → ℕ → List Called
 called_of r t = of_thread (λ x. x.called) r t
@@ -150,7 +154,7 @@ called_ats r t = map (λ x. x.at) (called_of r t)
 
 -- each of these is not below the one before it, and at most the number of messages that the thread ran
 abbrev pub ats_fit : Record → ℕ → List ℕ → Bool
-ats_fit r t ats = list_all (λ p. at_fits (length (ran_of r t)) p.0 p.1) (with_past [] ats)
+ats_fit r t ats = ats_ascend (length (ran_of r t)) ats
 
 -- each thread has its `did` lines, their AT and those of the callbacks ascend, and each line fits what stands before it
 pub record Answers (r : Record) : Type 0 where

@@ -1,5 +1,5 @@
 -- Numbers that fit their types: what every script and every record that a program holds has, said of plain data.
-use Rattle.std.specs.Prelude.{ℕ, ◌+◌, ◌≤◌, List, length, Option, Some, None}
+use Rattle.std.specs.Prelude.{ℕ, ◌+◌, ◌≤◌, length, Option, Some, None}
 use Rattle.std.specs.List.{AllByRecursion}
 use Rattle.hex.specs.Hex.{IsBytes}
 use Rattle.lw_base.specs.declared.message.What.{What}
@@ -12,6 +12,7 @@ use Rattle.lw_base.specs.declared.moves.Row.{Row}
 use Rattle.lw_base.specs.declared.moves.Order.{Order}
 use Rattle.lw_base.specs.declared.ends.DeviceEnd.{DeviceEnd}
 use Rattle.lw_base.specs.declared.ends.Home.{Home}
+use Rattle.lw_base.specs.Words.{greatest_u32, greatest_u64}
 use Rattle.lw_model.specs.declared.script.Script.{Script}
 use Rattle.lw_model.specs.declared.script.ImageOf.{ImageOf}
 use Rattle.lw_model.specs.declared.script.ClientOf.{ClientOf}
@@ -31,21 +32,13 @@ use Rattle.lw_model.specs.declared.record.SeenBy.{SeenBy}
 use Rattle.lw_model.specs.declared.record.SeenBy.TheVariants as by
 use Rattle.lw_model.specs.declared.record.Span.{Span}
 
--- the greatest u32
-abbrev pub u32_max : ℕ
-u32_max = 4294967295
-
--- the greatest u64
-abbrev pub u64_max : ℕ
-u64_max = 18446744073709551615
-
 -- a number is a u32
 abbrev pub Fits32 : ℕ → Type 0
-Fits32 n = n ≤ u32_max
+Fits32 n = n ≤ greatest_u32
 
 -- a number is a u64
 abbrev pub Fits64 : ℕ → Type 0
-Fits64 n = n ≤ u64_max
+Fits64 n = n ≤ greatest_u64
 
 -- ---- a script
 

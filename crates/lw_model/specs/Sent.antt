@@ -16,6 +16,10 @@ use Rattle.lw_model.specs.declared.step.Step.TheVariants as step
 use Rattle.lw_model.specs.OwnOrder.{history}
 use Rattle.lw_model.specs.Holding.{references}
 
+-- of messages with their receivers, those to thread t
+abbrev pub to_thread : {X : Type 0} → ℕ → List (ℕ × X) → List X
+to_thread t sends = map (λ p. p.1) (filter (λ p. p.0 == t) sends)
+
 -- the token that an op of thread t starts: of a visit or of a cast
 abbrev pub token_of_op : ℕ → ℕ → Op → Option What
 token_of_op t k (op.Visit d) = Some (what.Visit t k d)

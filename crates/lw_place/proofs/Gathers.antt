@@ -1,5 +1,5 @@
 -- Seats gathered into one.
-use Rattle.std.proofs.Common.{◌≡◌, ℕ, zero, suc, ◌+◌, ◌<◌, ◌≤◌, max, List, [], ◌∷◌, ◌++◌, length, map, refl, sym, ap, subst, ◌∙◌, ⊎_elim, arith, All, Any, Contains}
+use Rattle.std.proofs.Common.{◌≡◌, ℕ, zero, suc, ◌+◌, ◌<◌, ◌≤◌, max, List, [], ◌∷◌, ◌++◌, length, map, sym, ap, subst, ◌∙◌, ⊎_elim, arith, All, Any, Contains}
 use Rattle.std.specs.Prelude.{slice_index_or}
 use Rattle.std.proofs.lemmas.List.{length-map, get_or_push, get_or_append_left}
 use Rattle.std.proofs.lemmas.List.Elements.{All-map, All-contains}
@@ -82,10 +82,6 @@ one_more_place xs ps qs n p is long before last t d l = dite (ℕ_discrete t n)
     subst (λ (y : Stand). StandsAt xs y.thread y.place) (λ i. record { thread = sym same i; place = sym at i }) last))
     (λ differ. (let at : slice_index_or qs t d ≡ slice_index_or ps t d = ap (λ (l : List Place). slice_index_or l t d) is ∙ get_or_append_left ps (p ∷ []) d t (omega arith) in
     subst (λ (q : Place). StandsAt xs t q) (sym at) (before t d (omega arith))))
-
-pub nil_from_length : {X : Type 0} (xs : List X) → length xs ≡ 0 → xs ≡ []
-nil_from_length [] e = refl
-nil_from_length (x ∷ xs) e = absurd (omega arith)
 
 -- where all of these have ended, each has
 pub ends_there : (ts : List ThreadEnd) (k : ℕ) (p : Place) → All (λ t. t.place ≡ place.Ended) ts → StandsAt (map stand ts) k p → p ≡ place.Ended

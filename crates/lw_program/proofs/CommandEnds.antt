@@ -1,9 +1,9 @@
 -- How a command ends, from what its answer says.
-use Rattle.std.proofs.Common.{◌≡◌, ℕ, List, Option, Some, None, refl}
+use Rattle.std.proofs.Common.{ℕ, List, Option, Some, None, refl}
 use Rattle.lw_program.specs.declared.fault.Fault.{Fault}
 use Rattle.lw_program.specs.declared.fault.Fault.TheVariants.{Usage, Script, Walk, Unlawful, ReadFault, WriteFault, NoMemory}
 use Rattle.lw_program.specs.Outside.{Outside}
-use Rattle.lw_program.specs.Commands.{CommandOf, EndsCommand, EndsText, Explains, Gets, IsReadWell, IsAnswered}
+use Rattle.lw_program.specs.Commands.{CommandOf, EndsCommand, EndsText, Explains, Gets, IsReadWell}
 
 module _ {T : Type 0} (c : CommandOf T) (o : Outside) (bytes : List ℕ) (got : Gets c.limit o.left bytes o.left_after o.unread) (well : IsReadWell o) where
   -- bytes that are refused

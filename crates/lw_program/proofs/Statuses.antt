@@ -1,9 +1,8 @@
 -- What each exit status says, from how the program ends.
-use Rattle.std.proofs.Common.{◌≡◌, ◌≢◌, ◌≤◌, ◌↔◌, ◌⊎◌, inl, inr, ℕ, List, Option, Some, None, arith, refl, sym, ◌∙◌, subst, lit≤}
+use Rattle.std.proofs.Common.{◌≡◌, ◌≢◌, ◌≤◌, ◌⊎◌, inl, inr, ℕ, List, Option, Some, None, arith, refl, sym, ◌∙◌, subst, lit≤}
 use Rattle.lw_base.specs.Outside.{Rose}
 use Rattle.lw_model.specs.declared.record.Record.{Record}
-use Rattle.lw_model.specs.declared.refusal.ScriptRefusal.{ScriptRefusal}
-use Rattle.lw_script.specs.Served.{run_refusal}
+use Rattle.lw_script_rules.specs.Served.{run_refusal}
 use Rattle.lw_walk.specs.Walk.{walk_bad_line}
 use Rattle.lw_judge.specs.declared.answer.Verdict.TheVariants as verdict
 use Rattle.lw_judge.specs.Reports.{report_limit, IsLawfulReport}

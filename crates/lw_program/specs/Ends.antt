@@ -9,7 +9,7 @@ use Rattle.lw_model.specs.Lawful.{Lawful}
 use Rattle.lw_model.specs.Ranges.{RecordFits}
 use Rattle.lw_model.specs.ReportText.{text_of}
 use Rattle.lw_model.specs.ScriptText.{script_of}
-use Rattle.lw_script.specs.Served.{run_refusal}
+use Rattle.lw_script_rules.specs.Served.{run_refusal}
 use Rattle.lw_judge.specs.Reports.{report_limit, IsLawfulReport, IsUnlawfulReport}
 use Rattle.lw_target.specs.declared.options.Options.{Options}
 use Rattle.lw_walk.specs.Walk.{walk_bad_line, walk_answer}

@@ -7,7 +7,7 @@ use Rattle.lw_model.specs.Lawful.{Lawful}
 use Rattle.lw_model.specs.Ranges.{RecordFits}
 use Rattle.lw_model.specs.ReportText.{text_of}
 use Rattle.lw_model.specs.ScriptText.{script_of}
-use Rattle.lw_script.specs.Served.{run_refusal}
+use Rattle.lw_script_rules.specs.Served.{run_refusal}
 use Rattle.lw_target.specs.declared.options.Options.{Options}
 use Rattle.lw_program.specs.declared.fault.Fault.{Fault}
 use Rattle.lw_program.specs.declared.fault.Fault.TheVariants.{Script}

@@ -1,8 +1,9 @@
 -- Lines that are written are read back one after the other.
-use Rattle.std.proofs.Common.{◌≡◌, ℕ, ◌+◌, nat_le, Bool, true, false, if◌then◌else◌, List, [], ◌∷◌, ◌++◌, map, length, flat_map, codes, decimal, append_assoc, Option, Some, None, Result, Ok, Err, refl, sym, ap, ap₂, subst, ◌∙◌, arith}
+use Rattle.std.proofs.Common.{◌≡◌, ℕ, ◌+◌, nat_le, Bool, true, if◌then◌else◌, List, [], ◌∷◌, ◌++◌, map, length, flat_map, codes, decimal, append_assoc, Option, Some, None, Result, Ok, Err, refl, sym, ap, ap₂, subst, ◌∙◌, arith}
 use Rattle.std.specs.List.{list_all, enumerate_from, AllByRecursion}
 use Rattle.std.proofs.lemmas.Bool.{and_parts, ltb-true, leb-true, lt-leb, ne_eqb}
 use Rattle.std.proofs.lemmas.List.{map-append}
+use Rattle.lw_base.proofs.Lists.{some_same}
 use Rattle.lw_model.specs.declared.script.ClientOf.{ClientOf}
 use Rattle.lw_model.specs.declared.script.Op.{Op}
 use Rattle.lw_model.specs.declared.record.ThreadRecord.{ThreadRecord}
@@ -14,10 +15,10 @@ use Rattle.lw_model.specs.ScriptRules.{is_name, is_pattern}
 use Rattle.lw_model.specs.Printable.{has_bytes, has_results, has_role, is_empty, may_reply}
 use Rattle.lw_model.specs.ReportText.{line, count_of, op_line, client_lines as lines_of_client, reply_line, seen_line}
 use Rattle.lw_model.specs.Ranges.{ReplyFits, SeenFits, OpFits, ClientFits}
+use Rattle.lw_model.proofs.Printed.{empty_is}
 use Rattle.lw_report_lines.specs.LineKinds.{hop_in, ran_in, did_in, called_in, reply_in, seen_in, client_in, op_in}
 use Rattle.lw_report.specs.Machine.{State, ◌>>=◌, one, many, many_from, numbered}
 use Rattle.lw_report.specs.Report.{client_at, client_lines, role_at}
-use Rattle.lw_report_lines.proofs.Said.{some_is}
 use Rattle.lw_report.proofs.Reading.{state}
 use Rattle.lw_report.proofs.ReportTexts.{fed, one_by_one}
 use Rattle.lw_report.proofs.Chains.{own_lines}
@@ -37,7 +38,7 @@ one_back {X = X} f s l R x e h = subst (λ ls. one f (state s.line ls) ≡ Ok (x
           | None ↦ Err s.line
         ]) (Ok (x, state (s.line + 1) R))
     at None e = let wrong : None ≡ Some x = e in cc
-    at (Some y) e = ap (λ z. Ok (z, state (s.line + 1) R)) (some_is e)
+    at (Some y) e = ap (λ z. Ok (z, state (s.line + 1) R)) (some_same e)
 
 -- the first of these lines is none of a kind
 abbrev pub Stops : {X : Type 0} → (List ℕ → Option X) → List (List ℕ) → Type 0
@@ -141,10 +142,6 @@ role_is clients n Client h =
 role_is clients n Owner h =
     let less = ltb-true clients n h in
     ap₂ (λ a b. if a then App else (if b then Client else Owner)) (sym (ne_eqb n 0 (λ e. absurd (omega (arith, e, less))))) (sym (lt-leb n clients less))
-
-empty_is : {X : Type 0} (xs : List X) → is_empty xs ≡ true → xs ≡ []
-empty_is [] h = refl
-empty_is (x ∷ xs) h = let wrong : false ≡ true = h in cc
 
 pub both_fit : {X : Type 0} (P : X → Type 0) (p : X → Bool) (xs : List X) → AllByRecursion P xs → list_all p xs ≡ true → AllByRecursion (λ x. P x × (p x ≡ true)) xs
 both_fit P p [] fit h = tt

@@ -19,7 +19,6 @@ use Rattle.lw_model.specs.declared.record.SeenBy.{SeenBy}
 use Rattle.lw_model.specs.declared.record.SeenBy.TheVariants as by
 use Rattle.lw_model.specs.ScriptRules.{rule_broken, is_within}
 use Rattle.lw_model.specs.Printable.{has_a_line, has_bytes, has_results, has_role, may_reply, is_printable_thread, is_printable}
-use Rattle.lw_model.specs.Ranges.{u32_max, u64_max}
 use Rattle.lw_report_lines.specs.LineParts.{after, spaced}
 use Rattle.lw_report_lines.specs.LineKinds.{last32, last64, ended, visit_in, cast_in, what_in, ran_in, called_in, bytes_in, last_digits, decoded, replied_in, reply_in, results, mark, is_space, hop_in, did_in, image_in, thread_in, device_in, results_in, seen_in}
 use Rattle.lw_report.specs.declared.contents.Contents.{Contents}
@@ -28,9 +27,11 @@ use Rattle.lw_report_lines.specs.declared.single.NumberLine.TheVariants.{Period,
 use Rattle.lw_report_lines.specs.declared.single.PairLine.TheVariants.{Pool, Left}
 use Rattle.lw_report_lines.specs.Once.{fixed_in, number_of_in, pair_of_in, reactors_in}
 use Rattle.lw_base.specs.TextLines.{is_nil}
+use Rattle.lw_base.proofs.Lists.{some_same}
+use Rattle.lw_base.specs.Words.{greatest_u32, greatest_u64}
 use Rattle.lw_report.specs.Machine.{State, one, many}
 use Rattle.lw_report.specs.Report.{list_at, client_at, script_at, role_at, thread_lines, thread_at, threads_at, devices_at, report_at}
-use Rattle.lw_report_lines.proofs.Said.{some_is, some_parts, map_parts, if_some, chosen}
+use Rattle.lw_report_lines.proofs.Said.{some_parts, map_parts, if_some, chosen}
 use Rattle.lw_report.proofs.Said.{read_parts, if_ok, one_said, many_all, numbered_all}
 
 -- ---- messages
@@ -46,15 +47,15 @@ ended_has rest v w has e = subst HasLine (if_some _ v w e).1 has
 
 visit_has : (l : List ℕ) (w : What) → visit_in l ≡ Some w → HasLine w
 visit_has l w e =
-    let a = some_parts (spaced u32_max l) _ w e in
-    let b = some_parts (spaced u32_max a.0.1) _ w a.2 in
-    let c = some_parts (spaced u32_max b.0.1) _ w b.2 in
+    let a = some_parts (spaced greatest_u32 l) _ w e in
+    let b = some_parts (spaced greatest_u32 a.0.1) _ w a.2 in
+    let c = some_parts (spaced greatest_u32 b.0.1) _ w b.2 in
     ended_has c.0.1 (what.Visit a.0.0 b.0.0 c.0.0) w refl c.2
 
 cast_has : (l : List ℕ) (w : What) → cast_in l ≡ Some w → HasLine w
 cast_has l w e =
-    let a = some_parts (spaced u32_max l) _ w e in
-    let b = some_parts (spaced u32_max a.0.1) _ w a.2 in
+    let a = some_parts (spaced greatest_u32 l) _ w e in
+    let b = some_parts (spaced greatest_u32 a.0.1) _ w a.2 in
     ended_has b.0.1 (what.Cast a.0.0 b.0.0) w refl b.2
 
 what_has : (l : List ℕ) (w : What) → what_in l ≡ Some w → HasLine w
@@ -73,16 +74,16 @@ what_has l w e =
 pub ran_has : (l : List ℕ) (m : Tag) → ran_in l ≡ Some m → has_a_line m.what ≡ true
 ran_has l m e =
     let a = some_parts (after (codes "ran") l) _ m e in
-    let b = some_parts (spaced u32_max a.0) _ m a.2 in
-    let c = some_parts (spaced u64_max b.0.1) _ m b.2 in
+    let b = some_parts (spaced greatest_u32 a.0) _ m a.2 in
+    let c = some_parts (spaced greatest_u64 b.0.1) _ m b.2 in
     let d = some_parts (what_in c.0.1) _ m c.2 in
-    let same : record { sender = b.0.0; number = c.0.0; what = d.0 } ≡ m = some_is d.2 in
+    let same : record { sender = b.0.0; number = c.0.0; what = d.0 } ≡ m = some_same d.2 in
     subst (λ (x : Tag). has_a_line x.what ≡ true) same (what_has c.0.1 d.0 d.1)
 
 pub called_below : (images : ℕ) (l : List ℕ) (x : Called) → called_in images l ≡ Some x → nat_lt x.device images ≡ true
 called_below images l x e =
     let a = some_parts (after (codes "called") l) _ x e in
-    let b = some_parts (spaced u64_max a.0) _ x a.2 in
+    let b = some_parts (spaced greatest_u64 a.0) _ x a.2 in
     let c = some_parts (last32 b.0.1) _ x b.2 in
     let d = if_some (nat_lt c.0 images) (record { at = b.0.0; device = c.0 }) x c.2 in
     subst (λ (y : Called). nat_lt y.device images ≡ true) d.1 d.0
@@ -113,9 +114,9 @@ reply_has l x e =
 pub reply_fits : (l : List ℕ) (x : Reply) → reply_in l ≡ Some x → has_bytes x.answer ≡ true
 reply_fits l x e =
     let a = some_parts (after (codes "reply") l) _ x e in
-    let b = some_parts (spaced u32_max a.0) _ x a.2 in
+    let b = some_parts (spaced greatest_u32 a.0) _ x a.2 in
     let d = some_parts (replied_in b.0.1) _ x b.2 in
-    subst (λ (y : Reply). has_bytes y.answer ≡ true) (some_is d.2) (reply_has b.0.1 d.0 d.1)
+    subst (λ (y : Reply). has_bytes y.answer ≡ true) (some_same d.2) (reply_has b.0.1 d.0 d.1)
 
 -- as many results as were counted
 results_length : {X : Type 0} (one : List ℕ → Option (X × List ℕ)) (k : ℕ) (l : List ℕ) (xs : List X) → results one k l ≡ Some xs → length xs ≡ k
@@ -123,7 +124,7 @@ results_length {X = X} one zero l xs e = sym (ap length (if_some _ [] xs e).1)
 results_length {X = X} one (suc k) l xs e =
     let a = some_parts (one l) _ xs e in
     let b = some_parts (results one k a.0.1) _ xs a.2 in
-    sym (ap length (some_is b.2)) ∙ ap suc (results_length one k a.0.1 b.0 b.1)
+    sym (ap length (some_same b.2)) ∙ ap suc (results_length one k a.0.1 b.0 b.1)
 
 pub results_fit : (l : List ℕ) (x : SeenBy) → results_in l ≡ Some x → has_results x ≡ true
 results_fit l x e = at (length (filter is_space l) == 0) (is_some (mark l)) refl e
@@ -135,7 +136,7 @@ results_fit l x e = at (length (filter is_space l) == 0) (is_some (mark l)) refl
     marks = option_map by.Visit (results mark (length (filter is_space l)) l)
 
     threads : Option SeenBy
-    threads = option_map by.Cast (results (spaced u32_max) (length (filter is_space l)) l)
+    threads = option_map by.Cast (results (spaced greatest_u32) (length (filter is_space l)) l)
 
     some : (xs : List ℕ) → length xs ≡ length (filter is_space l) → (length (filter is_space l) == 0) ≡ false → Has (by.Cast xs)
     some [] same none = absurd (eqb-false (length (filter is_space l)) 0 none (sym same))
@@ -145,15 +146,15 @@ results_fit l x e = at (length (filter is_space l) == 0) (is_some (mark l)) refl
     at true b none e = let p = map_parts (results mark (length (filter is_space l)) l) by.Visit x e in subst Has p.2 refl
     at false true none e = let p = map_parts (results mark (length (filter is_space l)) l) by.Visit x e in subst Has p.2 refl
     at false false none e =
-        let p = map_parts (results (spaced u32_max) (length (filter is_space l)) l) by.Cast x e in
-        subst Has p.2 (some p.0 (results_length (spaced u32_max) (length (filter is_space l)) l p.0 p.1) none)
+        let p = map_parts (results (spaced greatest_u32) (length (filter is_space l)) l) by.Cast x e in
+        subst Has p.2 (some p.0 (results_length (spaced greatest_u32) (length (filter is_space l)) l p.0 p.1) none)
 
 pub seen_fits : (l : List ℕ) (x : Seen) → seen_in l ≡ Some x → has_results x.results ≡ true
 seen_fits l x e =
     let a = some_parts (after (codes "seen") l) _ x e in
-    let b = some_parts (spaced u32_max a.0) _ x a.2 in
+    let b = some_parts (spaced greatest_u32 a.0) _ x a.2 in
     let d = some_parts (results_in b.0.1) _ x b.2 in
-    subst (λ (y : Seen). has_results y.results ≡ true) (some_is d.2) (results_fit b.0.1 d.0 d.1)
+    subst (λ (y : Seen). has_results y.results ≡ true) (some_same d.2) (results_fit b.0.1 d.0 d.1)
 
 -- ---- threads
 

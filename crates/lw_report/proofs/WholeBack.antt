@@ -9,11 +9,12 @@ use Rattle.lw_base.specs.declared.moves.Scheduler.TheVariants.{Static}
 use Rattle.lw_model.specs.declared.record.ThreadRecord.{ThreadRecord}
 use Rattle.lw_base.specs.declared.ends.DeviceEnd.{DeviceEnd}
 use Rattle.lw_base.specs.declared.ends.Home.{Home}
+use Rattle.lw_base.proofs.Lists.{none_is}
+use Rattle.lw_base.specs.Words.{greatest_u64}
 use Rattle.lw_model.specs.ScriptRules.{is_name, is_pattern, is_within, rule_broken}
 use Rattle.lw_model.specs.Printable.{is_printable_thread, is_printable}
 use Rattle.lw_model.specs.ReportText.{line, count_of, image_line, client_lines, thread_lines, device_line}
-use Rattle.lw_model.specs.Ranges.{u64_max, Fits64, ImageFits, DeviceFits, ClientFits, ScriptFits, ThreadFits}
-use Rattle.lw_model.proofs.Rules.{none_is}
+use Rattle.lw_model.specs.Ranges.{Fits64, ImageFits, DeviceFits, ClientFits, ScriptFits, ThreadFits}
 use Rattle.lw_report.specs.declared.contents.Contents.{Contents}
 use Rattle.lw_report_lines.specs.declared.single.FixedLine.{FixedLine}
 use Rattle.lw_report_lines.specs.declared.single.FixedLine.TheVariants.{Title, StaticScheduler, End}
@@ -67,8 +68,8 @@ clients_fit n (c ∷ cs) fit named long =
     let m = and_parts (list_all is_pattern c.ops) (list_all (λ (d : ClientOf). list_all is_pattern d.ops) cs) long in
     (record { fit = fit.0; named = k.0; long = m.0 }, clients_fit (n + 1) cs fit.1 k.1 m.1)
 
-counted_within : (n : ℕ) → Fits64 n → is_within 0 u64_max n ≡ true
-counted_within n h = and_from (nat_le 0 n) (nat_le n u64_max) (le-leb 0 n (omega arith)) (le-leb n u64_max h)
+counted_within : (n : ℕ) → Fits64 n → is_within 0 greatest_u64 n ≡ true
+counted_within n h = and_from (nat_le 0 n) (nat_le n greatest_u64) (le-leb 0 n (omega arith)) (le-leb n greatest_u64 h)
 
 script_read : (s : State) (script : Script) (R : List (List ℕ)) → ScriptFits script → rule_broken script ≡ None
     → s.lines ≡ fed ((pool_line script ∷ []) ++ images_lines script ++ clients_lines script) ++ R → Back (script_at s) script R
@@ -219,7 +220,7 @@ whole_split c =
     ∙ ap (λ q. fed (front c.reactors c.period ++ script_lines c) ++ q) (append-nil (fed (rest_lines c)))
     ∙ fed_both (front c.reactors c.period) (script_lines c) (fed (rest_lines c))
 
-pub bounded : (least most n : ℕ) → most ≤ u64_max → is_within least most n ≡ true → Fits64 n
+pub bounded : (least most n : ℕ) → most ≤ greatest_u64 → is_within least most n ≡ true → Fits64 n
 bounded least most n small h = let k = and_parts (nat_le least n) (nat_le n most) h in omega (arith, small, leb-true n most k.1)
 
 report_read : (c : Contents) (s : State) → ContentsFit c → s.lines ≡ fed (front c.reactors c.period) ++ (fed (script_lines c) ++ fed (rest_lines c)) → Back (report_at s) c []

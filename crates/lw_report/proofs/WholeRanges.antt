@@ -9,7 +9,7 @@ use Rattle.lw_model.specs.declared.record.RoleKind.{RoleKind}
 use Rattle.lw_model.specs.declared.record.RoleKind.TheVariants.{App, Client, Owner}
 use Rattle.lw_model.specs.ScriptRules.{rule_broken}
 use Rattle.lw_model.specs.Ranges.{Fits32, Fits64, ReplyFits, SeenFits, OpFits, ImageFits, DeviceFits, HopFits, TagFits, DidFits, CalledFits, ClientFits, ScriptFits, ThreadFits, RecordFits}
-use Rattle.lw_model.proofs.Rules.{none_is, counts_fit}
+use Rattle.lw_model.proofs.Rules.{counts_fit}
 use Rattle.lw_report.specs.declared.contents.Contents.{Contents}
 use Rattle.lw_report_lines.specs.declared.single.FixedLine.TheVariants.{Title, StaticScheduler, End}
 use Rattle.lw_report_lines.specs.declared.single.NumberLine.TheVariants.{Period, Images, Clients}
@@ -17,6 +17,7 @@ use Rattle.lw_report_lines.specs.declared.single.PairLine.TheVariants.{Pool, Lef
 use Rattle.lw_report_lines.specs.LineKinds.{hop_in, ran_in, did_in, called_in, reply_in, seen_in, thread_in, device_in, image_in, client_in, op_in}
 use Rattle.lw_report_lines.specs.Once.{fixed_in, number_of_in, pair_of_in, reactors_in}
 use Rattle.lw_base.specs.TextLines.{pieces, is_nil}
+use Rattle.lw_base.proofs.Lists.{none_is}
 use Rattle.lw_report.specs.Machine.{State, ◌>>=◌, one, many, many_from, numbered}
 use Rattle.lw_report.specs.Report.{list_at, client_at, script_at, client_lines, role_at, thread_lines, thread_at, threads_at, devices_at, report_at, reading}
 use Rattle.lw_report.specs.Parsed.{contents_of}

@@ -14,7 +14,6 @@ use Rattle.lw_model.specs.declared.record.Span.{Span}
 use Rattle.lw_base.specs.declared.moves.Round.{Round}
 use Rattle.lw_model.specs.ScriptRules.{is_name, is_pattern, rule_broken}
 use Rattle.lw_model.specs.ReportText.{line, count_of, scheduler_word, image_line, client_lines, thread_lines, device_line, clock_lines, round_lines, text_of_lines, lines_of, text_of}
-use Rattle.lw_model.proofs.Rules.{none_is}
 use Rattle.lw_report.specs.declared.contents.Contents.{Contents}
 use Rattle.lw_report_lines.specs.declared.single.FixedLine.{FixedLine}
 use Rattle.lw_report_lines.specs.declared.single.FixedLine.TheVariants.{Title, StaticScheduler, End}
@@ -24,6 +23,7 @@ use Rattle.lw_report_lines.specs.declared.single.PairLine.TheVariants.{Pool, Lef
 use Rattle.lw_report_lines.specs.LineKinds.{text_in, image_in, device_in}
 use Rattle.lw_report_lines.specs.Once.{fixed_text, fixed_in, number_word, number_least, number_most, number_of_in, pair_of_in, reactors_in}
 use Rattle.lw_base.specs.TextLines.{is_feed, put_on, pieces, is_nil}
+use Rattle.lw_base.proofs.Lists.{none_is}
 use Rattle.lw_report.specs.Machine.{State, one, numbered}
 use Rattle.lw_report.specs.Report.{list_at, client_at, script_at, thread_at, threads_at, devices_at, rest_at, report_at, reading}
 use Rattle.lw_report.specs.Parsed.{contents_of, IsStatic}

@@ -10,7 +10,7 @@ use crate::sections::{ClientPart, DevicePart, ImagePart, ThreadPart, list};
 use lw_base::NoMemory;
 use lw_model::{DeviceEnd, Home, Items, Script, ThreadRecord};
 use lw_report_lines::{FixedLine, NumberLine, PairLine, ReactorsLine};
-use lw_script::rule_broken;
+use lw_script_rules::rule_broken;
 use std::alloc::Global;
 
 // The script's lines. One that breaks a rule makes the line behind them bad.

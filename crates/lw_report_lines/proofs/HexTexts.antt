@@ -4,11 +4,11 @@ use Rattle.std.specs.Prelude.{slice_index}
 use Rattle.std.specs.List.{list_all}
 use Rattle.std.proofs.lemmas.Bool.{and_parts, and_from, leb-true, le-leb, false≢true}
 use Rattle.std.proofs.lemmas.Bool.Decides.{Decides-eqb}
+use Rattle.lw_base.proofs.Lists.{some_same}
 use Rattle.hex.specs.declared.FromHexError.{FromHexError}
 use Rattle.hex.specs.Hex.{lower_digits, encode_with, encode_lower, hex_digit_value, digit_or_error, value_at, pair_value, decode_pairs, decode_of, ◌>>=◌}
 use Rattle.lw_model.proofs.Passing.{all_in_range}
 use Rattle.lw_report_lines.specs.LineKinds.{is_no_capital}
-use Rattle.lw_report_lines.proofs.Said.{some_is}
 
 -- the digits at the places below ten, and from ten on
 low_digit : (v : ℕ) → v < 10 → slice_index lower_digits v ≡ v + 48
@@ -31,13 +31,13 @@ digit_is c v small e = at (nat_le 65 c && nat_le c 70) (nat_le 97 c && nat_le c 
         let k = and_parts (nat_le 97 c) (nat_le c 102) is_b in
         let low = leb-true 97 c k.0 in
         let high = leb-true c 102 k.1 in
-        let is = some_is {x = c - 87} {y = v} e in
+        let is = some_same {x = c - 87} {y = v} e in
         (omega (arith, is, low, high), high_digit v (omega (arith, is, low, high)) (omega (arith, is, low, high)) ∙ omega (arith, is, low, high))
     at false false true is_a is_b is_d e =
         let k = and_parts (nat_le 48 c) (nat_le c 57) is_d in
         let low = leb-true 48 c k.0 in
         let high = leb-true c 57 k.1 in
-        let is = some_is {x = c - 48} {y = v} e in
+        let is = some_same {x = c - 48} {y = v} e in
         (omega (arith, is, low, high), low_digit v (omega (arith, is, low, high)) ∙ omega (arith, is, low, high))
     at false false false is_a is_b is_d e = let wrong : None ≡ Some v = e in cc
 

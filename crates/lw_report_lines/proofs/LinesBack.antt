@@ -1,9 +1,7 @@
 -- Each line that is written is read back.
-use Rattle.std.proofs.Common.{◌≡◌, ℕ, zero, suc, ◌+◌, ◌<◌, ◌≤◌, ◌==◌, nat_lt, nat_le, Bool, true, false, ◌&&◌, ◌||◌, not, if◌then◌else◌, List, [], ◌∷◌, ◌++◌, codes, map, filter, length, flat_map, append_assoc, decimal, Option, Some, None, option_map, is_some, refl, sym, ap, ap₂, subst, ◌∙◌, arith}
-use Rattle.std.specs.List.{list_all, AllByRecursion}
-use Rattle.std.proofs.lemmas.Bool.{and_parts, and_from, eq-eqb, ne_eqb, lt-ltb}
+use Rattle.std.proofs.Common.{◌≡◌, ℕ, nat_lt, true, false, List, [], ◌∷◌, ◌++◌, codes, flat_map, append_assoc, decimal, Some, option_map, refl, ap, ◌∙◌}
+use Rattle.std.proofs.lemmas.Bool.{eq-eqb}
 use Rattle.lw_base.specs.declared.message.Tag.{Tag}
-use Rattle.lw_base.specs.declared.message.Mark.{Mark}
 use Rattle.lw_base.specs.declared.message.What.{What}
 use Rattle.lw_base.specs.declared.message.What.TheVariants as what
 use Rattle.lw_base.specs.declared.moves.Hop.{Hop}
@@ -18,10 +16,9 @@ use Rattle.lw_base.specs.declared.ends.Home.{Home}
 use Rattle.lw_model.specs.ScriptRules.{is_within}
 use Rattle.lw_model.specs.Printable.{has_a_line}
 use Rattle.lw_model.specs.ReportText.{line, hop_line, what_words, ran_line, answer_words, did_line, called_line, role_word, device_line}
-use Rattle.lw_model.specs.Ranges.{u32_max, u64_max, WhatFits, TagFits, HopFits, AnswerFits, DidFits, CalledFits, DeviceFits, Fits32, Fits64}
-use Rattle.lw_report_lines.specs.LineParts.{after, number, spaced, is_end}
-use Rattle.lw_report_lines.specs.LineKinds.{choose, ended, last32, last64, hop_in, visit_in, cast_in, what_in, ran_in, answer_in, did_in, called_in, thread_in, device_in, text_in, number_in, pair_in}
-use Rattle.lw_report_lines.proofs.PartsBack.{after_back, tail_of, tail_cons, back32, back64, last32_back, last64_back}
+use Rattle.lw_model.specs.Ranges.{WhatFits, TagFits, HopFits, AnswerFits, DidFits, CalledFits, DeviceFits, Fits32, Fits64}
+use Rattle.lw_report_lines.specs.LineKinds.{hop_in, visit_in, cast_in, what_in, ran_in, answer_in, did_in, called_in, thread_in, device_in, number_in, pair_in}
+use Rattle.lw_report_lines.proofs.PartsBack.{after_back, tail_of, back32, back64, last32_back, last64_back}
 use Rattle.lw_model.proofs.JoinedWords.{join-cons}
 
 -- a line is its first word and what stands behind it

@@ -7,8 +7,8 @@ use Rattle.std.proofs.lemmas.Bool.{and_parts, and_from, leb-true, le-leb, ltb-tr
 use Rattle.std.proofs.lemmas.Fmt.{decimal-digits_value}
 use Rattle.std.proofs.lemmas.Str.Parse.{IsNumeralModel, IsDigitsTest, FoldsDigits, numerals_by_fold}
 use Rattle.lw_model.specs.ReportText.{line}
-use Rattle.lw_model.specs.Ranges.{u64_max}
 use Rattle.lw_base.specs.TextLines.{value_from}
+use Rattle.lw_base.specs.Words.{greatest_u64}
 use Rattle.lw_report_lines.specs.LineParts.{after, is_digit, is_no_digit, place_of_first, digit_count, word_length, is_plain, number, spaced, word, is_end}
 use Rattle.lw_report_lines.proofs.Said.{some_parts, if_some}
 use Rattle.lw_model.proofs.JoinedWords.{join-cons}
@@ -78,7 +78,7 @@ plain_parts ds e = at (length ds == 1) refl e
         let k = and_parts (nat_lt 1 (length ds)) (not (get_or ds 0 0 == 48)) e in
         (omega (arith, ltb-true 1 (length ds) k.0), λ z. absurd (false≢true (sym (ap not (eq-eqb (get_or ds 0 0) 48 z)) ∙ k.1)))
 
-pub number_text : (most : ℕ) (l : List ℕ) (n : ℕ) (rest : List ℕ) → most ≤ u64_max → number most l ≡ Some (n, rest) → l ≡ decimal n ++ rest
+pub number_text : (most : ℕ) (l : List ℕ) (n : ℕ) (rest : List ℕ) → most ≤ greatest_u64 → number most l ≡ Some (n, rest) → l ≡ decimal n ++ rest
 number_text most l n rest small e =
     let count = digit_count l in
     let ds = take count l in
@@ -110,7 +110,7 @@ tail_end l e = (bytes_decides l (10 ∷ [])).0 e
 pub tail_word : (w l rest : List ℕ) (ws : List (List ℕ)) → l ≡ 32 ∷ (w ++ rest) → Tail ws rest → Tail (w ∷ ws) l
 tail_word w l rest ws e t = e ∙ ap (λ r. 32 ∷ (w ++ r)) t ∙ sym (append_assoc (32 ∷ w) (flat_map (λ w. 32 ∷ w) ws) (10 ∷ []))
 
-pub spaced_text : (most : ℕ) (l : List ℕ) (p : ℕ × List ℕ) → most ≤ u64_max → spaced most l ≡ Some p → l ≡ 32 ∷ (decimal p.0 ++ p.1)
+pub spaced_text : (most : ℕ) (l : List ℕ) (p : ℕ × List ℕ) → most ≤ greatest_u64 → spaced most l ≡ Some p → l ≡ 32 ∷ (decimal p.0 ++ p.1)
 spaced_text most l p small e =
     let a = some_parts (after (32 ∷ []) l) (number most) p e in
     after_text (32 ∷ []) l a.0 a.1 ∙ ap (λ r. 32 ∷ r) (number_text most a.0 p.0 p.1 small a.2)

@@ -1,13 +1,13 @@
 -- What is written at the front of a line is read back.
-use Rattle.std.proofs.Common.{◌≡◌, ℕ, zero, suc, ◌+◌, ◌-◌, ◌^◌, ◌<◌, ◌≤◌, ◌==◌, nat_lt, nat_le, Bool, true, false, cond, ◌&&◌, ◌||◌, not, if◌then◌else◌, List, [], ◌∷◌, ◌++◌, length, take, drop, get_or, flat_map, append_assoc, append-nil, decimal, Option, Some, None, unwrap_or, option_and_then, refl, sym, ap, ap₂, subst, ◌∙◌, inl, inr, arith}
-use Rattle.std.specs.List.{list_all, prefix_len, position_or_len}
+use Rattle.std.proofs.Common.{◌≡◌, ℕ, ◌+◌, ◌^◌, ◌<◌, ◌≤◌, ◌==◌, nat_lt, nat_le, Bool, true, false, cond, ◌&&◌, ◌||◌, not, if◌then◌else◌, List, [], ◌∷◌, ◌++◌, length, take, drop, get_or, flat_map, append_assoc, decimal, Option, Some, None, option_and_then, refl, sym, ap, ap₂, subst, ◌∙◌, inl, inr, arith}
+use Rattle.std.specs.List.{list_all, prefix_len}
 use Rattle.std.specs.Fmt.{digits}
 use lib.Pointwise.{bytes_decides}
-use Rattle.std.proofs.lemmas.Bool.{and_parts, and_from, leb-true, le-leb, lt-ltb, eq-eqb, ne_eqb, cases_eq, true≢false}
+use Rattle.std.proofs.lemmas.Bool.{and_parts, and_from, le-leb, lt-ltb, eq-eqb, ne_eqb, cases_eq, true≢false}
 use Rattle.std.proofs.lemmas.Fmt.{digits_decimal, digits_value-decimal, first_decimal, decimal_nonempty}
 use Rattle.lw_base.specs.TextLines.{value_from}
-use Rattle.lw_model.specs.Ranges.{u32_max, u64_max}
-use Rattle.lw_report_lines.specs.LineParts.{after, is_digit, is_no_digit, ends_word, digit_count, word_length, place_of_first, is_plain, number, spaced, word, is_end}
+use Rattle.lw_base.specs.Words.{greatest_u32, greatest_u64}
+use Rattle.lw_report_lines.specs.LineParts.{after, is_digit, is_no_digit, ends_word, digit_count, word_length, is_plain, number, spaced, word}
 use Rattle.lw_report_lines.specs.LineKinds.{ended, last32, last64}
 use Rattle.lw_report_lines.proofs.PartTexts.{AreDigits, numerals, place_is}
 
@@ -74,7 +74,7 @@ plain_decimal n small = elim (cases_eq n 0) [
         eqb_not : (k : ℕ) → (k == 1) ≡ false → k ≡ 1 → ⊥
         eqb_not k e is = absurd (true≢false (sym (eq-eqb k 1 is) ∙ e))
 
-pub number_back : (most n : ℕ) (rest : List ℕ) → most ≤ u64_max → n ≤ most → NoDigit rest → number most (decimal n ++ rest) ≡ Some (n, rest)
+pub number_back : (most n : ℕ) (rest : List ℕ) → most ≤ greatest_u64 → n ≤ most → NoDigit rest → number most (decimal n ++ rest) ≡ Some (n, rest)
 number_back most n rest wide within other =
     let small : n < 2 ^ 64 = omega arith in
     let digits = are_all (decimal n) (digits_decimal numerals n small) in
@@ -97,22 +97,22 @@ pub tail_no_digit : (ws : List (List ℕ)) → NoDigit (tail_of ws)
 tail_no_digit [] = refl
 tail_no_digit (w ∷ ws) = refl
 
-pub spaced_back : (most n : ℕ) (ws : List (List ℕ)) → most ≤ u64_max → n ≤ most → spaced most (tail_of (decimal n ∷ ws)) ≡ Some (n, tail_of ws)
+pub spaced_back : (most n : ℕ) (ws : List (List ℕ)) → most ≤ greatest_u64 → n ≤ most → spaced most (tail_of (decimal n ∷ ws)) ≡ Some (n, tail_of ws)
 spaced_back most n ws wide within =
     ap (λ l. option_and_then (number most) (after (32 ∷ []) l)) (tail_cons (decimal n) ws)
     ∙ ap (option_and_then (number most)) (after_back (32 ∷ []) (decimal n ++ tail_of ws))
     ∙ number_back most n (tail_of ws) wide within (tail_no_digit ws)
 
-pub back32 : (n : ℕ) (ws : List (List ℕ)) → n ≤ u32_max → spaced u32_max (tail_of (decimal n ∷ ws)) ≡ Some (n, tail_of ws)
-back32 n ws within = spaced_back u32_max n ws (omega arith) within
+pub back32 : (n : ℕ) (ws : List (List ℕ)) → n ≤ greatest_u32 → spaced greatest_u32 (tail_of (decimal n ∷ ws)) ≡ Some (n, tail_of ws)
+back32 n ws within = spaced_back greatest_u32 n ws (omega arith) within
 
-pub back64 : (n : ℕ) (ws : List (List ℕ)) → n ≤ u64_max → spaced u64_max (tail_of (decimal n ∷ ws)) ≡ Some (n, tail_of ws)
-back64 n ws within = spaced_back u64_max n ws (omega arith) within
+pub back64 : (n : ℕ) (ws : List (List ℕ)) → n ≤ greatest_u64 → spaced greatest_u64 (tail_of (decimal n ∷ ws)) ≡ Some (n, tail_of ws)
+back64 n ws within = spaced_back greatest_u64 n ws (omega arith) within
 
-pub last32_back : (n : ℕ) → n ≤ u32_max → last32 (tail_of (decimal n ∷ [])) ≡ Some n
+pub last32_back : (n : ℕ) → n ≤ greatest_u32 → last32 (tail_of (decimal n ∷ [])) ≡ Some n
 last32_back n within = ap (λ (o : Option (ℕ × List ℕ)). option_and_then (λ p. ended p.1 p.0) o) (back32 n [] within)
 
-pub last64_back : (n : ℕ) → n ≤ u64_max → last64 (tail_of (decimal n ∷ [])) ≡ Some n
+pub last64_back : (n : ℕ) → n ≤ greatest_u64 → last64 (tail_of (decimal n ∷ [])) ≡ Some n
 last64_back n within = ap (λ (o : Option (ℕ × List ℕ)). option_and_then (λ p. ended p.1 p.0) o) (back64 n [] within)
 
 -- a word without a space or a line feed

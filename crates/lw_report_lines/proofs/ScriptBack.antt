@@ -1,17 +1,17 @@
 -- The lines of a script, replies and results are read back.
-use Rattle.std.proofs.Common.{◌≡◌, ℕ, zero, suc, ◌+◌, ◌*◌, ◌/◌, ◌%◌, ◌<◌, ◌≤◌, ◌==◌, nat_lt, nat_le, Bool, true, false, cond, ◌&&◌, ◌||◌, not, if◌then◌else◌, List, [], ◌∷◌, ◌++◌, codes, map, filter, length, get_or, flat_map, append_assoc, append-nil, decimal, Option, Some, None, option_map, is_some, Result, Ok, Err, refl, sym, ap, ap₂, subst, ◌∙◌, arith}
+use Rattle.std.proofs.Common.{◌≡◌, ℕ, zero, suc, ◌+◌, ◌/◌, ◌%◌, ◌<◌, ◌≤◌, ◌==◌, nat_le, Bool, true, false, cond, ◌&&◌, ◌||◌, not, if◌then◌else◌, List, [], ◌∷◌, ◌++◌, codes, map, filter, length, append_assoc, decimal, Option, Some, None, option_map, is_some, Result, Ok, Err, refl, ap, ap₂, ◌∙◌, arith}
 use Rattle.std.specs.Prelude.{slice_index}
 use Rattle.std.specs.List.{list_all, AllByRecursion}
-use Rattle.std.specs.Str.{is_utf8, IsAscii}
-use Rattle.std.proofs.lemmas.Bool.{and_parts, and_from, leb-true, le-leb, lt-leb, lt-ltb, ltb-true, eqb-true, ne_eqb, eq-eqb, cases_lt, true≢false, false≢true}
-use Rattle.std.proofs.lemmas.Bool.Decides.{Decides-eqb}
+use Rattle.std.specs.Str.{IsAscii}
+use Rattle.std.proofs.lemmas.Bool.{and_parts, and_from, leb-true, lt-ltb, eqb-true, ne_eqb, false≢true}
 use Rattle.std.proofs.lemmas.List.Elements.{filter-append}
 use Rattle.std.proofs.lemmas.Str.{IsUtf8-from_ascii, is_utf8-from_IsUtf8}
-use Rattle.std.proofs.lemmas.Fmt.{digits_decimal, decimal_nonempty}
+use Rattle.std.proofs.lemmas.Fmt.{digits_decimal}
 use Rattle.hex.specs.declared.FromHexError.{FromHexError}
-use Rattle.hex.specs.Hex.{lower_digits, encode_with, encode_lower, decode_of, IsBytes}
+use Rattle.hex.specs.Hex.{lower_digits, encode_with, encode_lower, IsBytes}
 use Rattle.hex.proofs.HexLemmas.{length-encode_with, decode_of-encode_lower}
 use Rattle.lw_base.specs.declared.message.Mark.{Mark}
+use Rattle.lw_base.specs.Words.{greatest_u32, greatest_u64}
 use Rattle.lw_model.specs.declared.script.ImageOf.{ImageOf}
 use Rattle.lw_model.specs.declared.script.Op.{Op}
 use Rattle.lw_model.specs.declared.script.Op.TheVariants as op
@@ -25,13 +25,12 @@ use Rattle.lw_model.specs.ScriptRules.{is_within, is_name, is_name_byte, is_patt
 use Rattle.lw_model.specs.ScriptShape.{pattern_of}
 use Rattle.lw_model.specs.Printable.{has_bytes, has_results}
 use Rattle.lw_model.specs.ReportText.{line, image_line, op_words, op_line, replied_words, reply_line, mark_word, result_words, seen_line}
-use Rattle.lw_model.specs.Ranges.{u32_max, u64_max, Fits32, Fits64, RepliedFits, ReplyFits, MarkFits, SeenByFits, SeenFits, OpFits, ImageFits}
+use Rattle.lw_model.specs.Ranges.{Fits32, Fits64, RepliedFits, ReplyFits, MarkFits, SeenByFits, SeenFits, OpFits, ImageFits}
 use Rattle.lw_model.proofs.Passing.{all_in_range}
-use Rattle.lw_report_lines.specs.declared.script_lines.ClientHead.{ClientHead}
-use Rattle.lw_report_lines.specs.LineParts.{after, number, spaced, word, is_end, is_digit, ends_word}
-use Rattle.lw_report_lines.specs.LineKinds.{last32, last64, ended, is_no_capital, last_digits, decoded, bytes_in, replied_in, reply_in, mark, results, is_space, results_in, seen_in, name_of, image_in, client_in, write_in, read_in, plain_form_in, form_in, op_in}
-use Rattle.lw_report_lines.proofs.PartTexts.{AreDigits, numerals}
-use Rattle.lw_report_lines.proofs.PartsBack.{after_back, number_back, NoDigit, tail_of, tail_cons, tail_no_digit, back32, back64, last32_back, last64_back, word_back, are_all}
+use Rattle.lw_report_lines.specs.LineParts.{spaced, word, is_digit, ends_word}
+use Rattle.lw_report_lines.specs.LineKinds.{is_no_capital, last_digits, decoded, bytes_in, replied_in, reply_in, mark, results, is_space, results_in, seen_in, name_of, image_in, client_in, write_in, read_in, form_in, op_in}
+use Rattle.lw_report_lines.proofs.PartTexts.{numerals}
+use Rattle.lw_report_lines.proofs.PartsBack.{number_back, tail_of, tail_cons, tail_no_digit, back32, back64, last32_back, last64_back, word_back, are_all}
 use Rattle.lw_report_lines.proofs.LinesBack.{line_tail}
 use Rattle.lw_report_lines.proofs.Names.{named_length}
 
@@ -89,9 +88,9 @@ mark_back : (m : Mark) (ws : List (List ℕ)) → MarkFits m → mark (tail_of (
 mark_back m ws fit =
     let split : tail_of (mark_word m ∷ ws) ≡ 32 ∷ (decimal m.thread ++ (58 ∷ (decimal m.submitted ++ tail_of ws))) =
     tail_cons (mark_word m) ws ∙ ap (λ q. 32 ∷ q) (append_assoc (decimal m.thread) (58 ∷ decimal m.submitted) (tail_of ws)) in
-    let first : spaced u32_max (32 ∷ (decimal m.thread ++ (58 ∷ (decimal m.submitted ++ tail_of ws)))) ≡ Some (m.thread, 58 ∷ (decimal m.submitted ++ tail_of ws)) =
-    number_back u32_max m.thread (58 ∷ (decimal m.submitted ++ tail_of ws)) (omega arith) fit.0 refl in
-    ap mark split ∙ rw (first, number_back u64_max m.submitted (tail_of ws) (omega arith) fit.1 (tail_no_digit ws)) refl
+    let first : spaced greatest_u32 (32 ∷ (decimal m.thread ++ (58 ∷ (decimal m.submitted ++ tail_of ws)))) ≡ Some (m.thread, 58 ∷ (decimal m.submitted ++ tail_of ws)) =
+    number_back greatest_u32 m.thread (58 ∷ (decimal m.submitted ++ tail_of ws)) (omega arith) fit.0 refl in
+    ap mark split ∙ rw (first, number_back greatest_u64 m.submitted (tail_of ws) (omega arith) fit.1 (tail_no_digit ws)) refl
 
 results_back : {X : Type 0} (one : List ℕ → Option (X × List ℕ)) (word : X → List ℕ) (Fits : X → Type 0) → ((x : X) (ws : List (List ℕ)) → Fits x → one (tail_of (word x ∷ ws)) ≡ Some (x, tail_of ws))
     → (xs : List X) → AllByRecursion Fits xs → results one (length xs) (tail_of (map word xs)) ≡ Some xs
@@ -121,7 +120,7 @@ digit_no_space (d ∷ ds) h =
     let m = and_parts (nat_le 48 d) (nat_le d 57) k.0 in
     and_from (not (is_space d)) (list_all (λ b. not (is_space b)) ds) (ap not (ne_eqb d 32 (λ e. absurd (omega (arith, e, leb-true 48 d m.0))))) (digit_no_space ds k.1)
 
-decimal_no_space : (n : ℕ) → n ≤ u64_max → list_all (λ b. not (is_space b)) (decimal n) ≡ true
+decimal_no_space : (n : ℕ) → n ≤ greatest_u64 → list_all (λ b. not (is_space b)) (decimal n) ≡ true
 decimal_no_space n fit = digit_no_space (decimal n) (are_all (decimal n) (digits_decimal numerals n (omega arith)))
 
 all-append : (p : ℕ → Bool) (xs ys : List ℕ) → list_all p xs ≡ true → list_all p ys ≡ true → list_all p (xs ++ ys) ≡ true
@@ -153,8 +152,8 @@ results_are (by.Visit (m ∷ ms)) fit has =
     let count : length (filter is_space l) ≡ length (m ∷ ms) = spaces_counted (map mark_word (m ∷ ms)) (marks_no_space (m ∷ ms) fit) ∙ length_map mark_word (m ∷ ms) in
     let first : is_some (mark l) ≡ true = ap is_some (mark_back m (map mark_word ms) fit.0) in
     let all = results_back mark mark_word MarkFits mark_back (m ∷ ms) fit in
-    ap (λ b. if length (filter is_space l) == 0 || b then option_map by.Visit (results mark (length (filter is_space l)) l) else option_map by.Cast (results (spaced u32_max) (length (filter is_space l)) l)) first
-    ∙ either (length (filter is_space l) == 0) (option_map by.Visit (results mark (length (filter is_space l)) l)) (option_map by.Cast (results (spaced u32_max) (length (filter is_space l)) l))
+    ap (λ b. if length (filter is_space l) == 0 || b then option_map by.Visit (results mark (length (filter is_space l)) l) else option_map by.Cast (results (spaced greatest_u32) (length (filter is_space l)) l)) first
+    ∙ either (length (filter is_space l) == 0) (option_map by.Visit (results mark (length (filter is_space l)) l)) (option_map by.Cast (results (spaced greatest_u32) (length (filter is_space l)) l))
     ∙ ap (λ k. option_map by.Visit (results mark k l)) count
     ∙ ap (option_map by.Visit) all
   where
@@ -167,9 +166,9 @@ results_are (by.Cast (t ∷ ts)) fit has =
     let count : length (filter is_space l) ≡ length (t ∷ ts) = spaces_counted (map decimal (t ∷ ts)) (threads_no_space (t ∷ ts) fit) ∙ length_map decimal (t ∷ ts) in
     let first : is_some (mark l) ≡ false = ap is_some (no_mark t (map decimal ts) fit.0) in
     let some : (length (filter is_space l) == 0) ≡ false = ne_eqb (length (filter is_space l)) 0 (λ e. absurd (omega (arith, e, count))) in
-    let all = results_back (spaced u32_max) decimal Fits32 (λ k ws h. back32 k ws h) (t ∷ ts) fit in
-    ap₂ (λ a b. if a || b then option_map by.Visit (results mark (length (filter is_space l)) l) else option_map by.Cast (results (spaced u32_max) (length (filter is_space l)) l)) some first
-    ∙ ap (λ k. option_map by.Cast (results (spaced u32_max) k l)) count
+    let all = results_back (spaced greatest_u32) decimal Fits32 (λ k ws h. back32 k ws h) (t ∷ ts) fit in
+    ap₂ (λ a b. if a || b then option_map by.Visit (results mark (length (filter is_space l)) l) else option_map by.Cast (results (spaced greatest_u32) (length (filter is_space l)) l)) some first
+    ∙ ap (λ k. option_map by.Cast (results (spaced greatest_u32) k l)) count
     ∙ ap (option_map by.Cast) all
 
 pub seen_back : (x : Seen) → SeenFits x → has_results x.results ≡ true → seen_in (seen_line x ++ 10 ∷ []) ≡ Some x

@@ -3,6 +3,8 @@ use Rattle.std.proofs.Common.{◌≡◌, ℕ, ◌<◌, nat_lt, nat_le, Bool, tru
 use Rattle.std.specs.List.{list_all}
 use Rattle.std.specs.Str.{is_utf8}
 use Rattle.std.proofs.lemmas.Bool.{and_parts, leb-true}
+use Rattle.lw_base.proofs.Lists.{some_same}
+use Rattle.lw_base.specs.Words.{greatest_u32, greatest_u64}
 use Rattle.hex.specs.declared.FromHexError.{FromHexError}
 use Rattle.hex.specs.Hex.{encode_lower, decode_of}
 use Rattle.lw_model.specs.declared.script.ImageOf.{ImageOf}
@@ -14,11 +16,10 @@ use Rattle.lw_model.specs.declared.record.Replied.TheVariants as replied
 use Rattle.lw_model.specs.ScriptShape.{pattern_of}
 use Rattle.lw_model.specs.ScriptRules.{is_within, is_pattern}
 use Rattle.lw_model.specs.ReportText.{line, image_line, op_words, op_line, replied_words, reply_line}
-use Rattle.lw_model.specs.Ranges.{u32_max, u64_max}
 use Rattle.lw_report_lines.specs.declared.script_lines.ClientHead.{ClientHead}
 use Rattle.lw_report_lines.specs.LineParts.{after, spaced, word, is_end}
 use Rattle.lw_report_lines.specs.LineKinds.{last64, is_no_capital, last_digits, decoded, bytes_in, replied_in, reply_in, name_of, image_in, client_in, write_in, read_in, plain_form_in, op_in}
-use Rattle.lw_report_lines.proofs.Said.{some_parts, map_parts, if_some, some_is}
+use Rattle.lw_report_lines.proofs.Said.{some_parts, map_parts, if_some}
 use Rattle.lw_report_lines.proofs.PartTexts.{after_text, Tail, tail_end, tail_word, word_text, whole_line}
 use Rattle.lw_report_lines.proofs.LineTexts.{tail32, tail64, last64_text, picked, by_end, by32, by64}
 use Rattle.lw_report_lines.proofs.HexTexts.{lower_same}
@@ -34,7 +35,7 @@ decoded_ok : (w bs : List ℕ) → decoded w ≡ Some bs → decode_of w ≡ Ok 
 decoded_ok w bs e = at (decode_of w) e
   where
     at : (r : Result (List ℕ) FromHexError) → ◌≡◌ {A = Option (List ℕ)} (elim r [ Ok bytes ↦ Some bytes | Err x ↦ None ]) (Some bs) → r ≡ Ok bs
-    at (Ok bytes) e = ap Ok (some_is e)
+    at (Ok bytes) e = ap Ok (some_same e)
     at (Err x) e = let wrong : None ≡ Some bs = e in cc
 
 bytes_text : (l bs : List ℕ) → bytes_in l ≡ Some bs → Tail (encode_lower bs ∷ []) l
@@ -56,9 +57,9 @@ replied_text l x e =
 pub reply_text : (l : List ℕ) (x : Reply) → reply_in l ≡ Some x → l ≡ reply_line x ++ 10 ∷ []
 reply_text l x e =
     let a = some_parts (after (codes "reply") l) _ x e in
-    let b = some_parts (spaced u32_max a.0) _ x a.2 in
+    let b = some_parts (spaced greatest_u32 a.0) _ x a.2 in
     let d = some_parts (replied_in b.0.1) _ x b.2 in
-    subst (λ y. l ≡ reply_line y ++ 10 ∷ []) (some_is d.2)
+    subst (λ y. l ≡ reply_line y ++ 10 ∷ []) (some_same d.2)
     (whole_line (codes "reply") l a.0 (decimal b.0.0 ∷ replied_words d.0) (after_text (codes "reply") l a.0 a.1) (tail32 a.0 b.0 (replied_words d.0) b.1 (replied_text b.0.1 d.0 d.1)))
 
 -- ---- names
@@ -74,9 +75,9 @@ pub image_text : (l : List ℕ) (x : ImageOf) → image_in l ≡ Some x → 0 < 
 image_text l x e named =
     let a = some_parts (after (codes "image") l) _ x e in
     let w = some_parts (word a.0) _ x a.2 in
-    let b = some_parts (spaced u32_max w.0.1) _ x w.2 in
+    let b = some_parts (spaced greatest_u32 w.0.1) _ x w.2 in
     let c = some_parts (last64 b.0.1) _ x b.2 in
-    let is : record { name = name_of w.0.0; block = b.0.0; blocks = c.0 } ≡ x = some_is c.2 in
+    let is : record { name = name_of w.0.0; block = b.0.0; blocks = c.0 } ≡ x = some_same c.2 in
     let same = name_same w.0.0 (subst (λ (y : ImageOf). 0 < length y.name) (sym is) named) in
     subst (λ (y : ImageOf). l ≡ image_line y ++ 10 ∷ []) is
     (subst (λ n. l ≡ line (codes "image" ∷ n ∷ decimal b.0.0 ∷ decimal c.0 ∷ []) ++ 10 ∷ []) (sym same)
@@ -87,9 +88,9 @@ pub client_text : (l : List ℕ) (x : ClientHead) → client_in l ≡ Some x →
 client_text l x e named =
     let a = some_parts (after (codes "client") l) _ x e in
     let w = some_parts (word a.0) _ x a.2 in
-    let b = some_parts (spaced u32_max w.0.1) _ x w.2 in
+    let b = some_parts (spaced greatest_u32 w.0.1) _ x w.2 in
     let c = some_parts (last64 b.0.1) _ x b.2 in
-    let is : record { name = name_of w.0.0; depth = b.0.0; ops = c.0 } ≡ x = some_is c.2 in
+    let is : record { name = name_of w.0.0; depth = b.0.0; ops = c.0 } ≡ x = some_same c.2 in
     let same = name_same w.0.0 (subst (λ (y : ClientHead). 0 < length y.name) (sym is) named) in
     subst (λ (y : ClientHead). l ≡ line (codes "client" ∷ y.name ∷ decimal y.depth ∷ decimal y.ops ∷ []) ++ 10 ∷ []) is
     (subst (λ n. l ≡ line (codes "client" ∷ n ∷ decimal b.0.0 ∷ decimal c.0 ∷ []) ++ 10 ∷ []) (sym same)
@@ -107,12 +108,12 @@ pattern_ok w h = at (decode_of w) h
 
 write_text : (l r : List ℕ) (o : Op) → is_pattern o ≡ true → l ≡ 32 ∷ (codes "write" ++ r) → write_in r ≡ Some o → Tail (op_words o) l
 write_text l r o fits is e =
-    let a = some_parts (spaced u32_max r) _ o e in
-    let b = some_parts (spaced u64_max a.0.1) _ o a.2 in
-    let c = some_parts (spaced u64_max b.0.1) _ o b.2 in
+    let a = some_parts (spaced greatest_u32 r) _ o e in
+    let b = some_parts (spaced greatest_u64 a.0.1) _ o a.2 in
+    let c = some_parts (spaced greatest_u64 b.0.1) _ o b.2 in
     let w = some_parts (last_digits c.0.1) _ o c.2 in
     let t = digits_text c.0.1 w.0 w.1 in
-    let same : op.Write a.0.0 b.0.0 c.0.0 (pattern_of w.0) ≡ o = some_is w.2 in
+    let same : op.Write a.0.0 b.0.0 c.0.0 (pattern_of w.0) ≡ o = some_same w.2 in
     let long : is_within 1 64 (length (pattern_of w.0)) ≡ true = subst (λ q. is_pattern q ≡ true) (sym same) fits in
     let k = and_parts (nat_le 1 (length (pattern_of w.0))) (nat_le (length (pattern_of w.0)) 64) long in
     let ok = pattern_ok w.0 (omega (arith, leb-true 1 (length (pattern_of w.0)) k.0)) in
@@ -125,10 +126,10 @@ write_text l r o fits is e =
 
 read_text : (l r : List ℕ) (o : Op) → l ≡ 32 ∷ (codes "read" ++ r) → read_in r ≡ Some o → Tail (op_words o) l
 read_text l r o is e =
-    let a = some_parts (spaced u32_max r) _ o e in
-    let b = some_parts (spaced u64_max a.0.1) _ o a.2 in
+    let a = some_parts (spaced greatest_u32 r) _ o e in
+    let b = some_parts (spaced greatest_u64 a.0.1) _ o a.2 in
     let c = some_parts (last64 b.0.1) _ o b.2 in
-    subst (λ q. Tail (op_words q) l) (some_is c.2)
+    subst (λ q. Tail (op_words q) l) (some_same c.2)
     (tail_word (codes "read") l r (decimal a.0.0 ∷ decimal b.0.0 ∷ decimal c.0 ∷ []) is
     (tail32 r a.0 (decimal b.0.0 ∷ decimal c.0 ∷ []) a.1 (tail64 a.0.1 b.0 (decimal c.0 ∷ []) b.1 (last64_text b.0.1 c.0 c.1))))
 

@@ -26,9 +26,9 @@ use Rattle.lw_model.specs.declared.record.Did.{Did}
 use Rattle.lw_model.specs.declared.record.Answer.{Answer}
 use Rattle.lw_model.specs.declared.record.Answer.TheVariants as answer
 use Rattle.lw_model.specs.declared.record.Called.{Called}
-use Rattle.lw_model.specs.Ranges.{u32_max, u64_max}
 use Rattle.lw_base.specs.declared.ends.DeviceEnd.{DeviceEnd}
 use Rattle.lw_base.specs.declared.ends.Home.{Home}
+use Rattle.lw_base.specs.Words.{greatest_u32, greatest_u64}
 use Rattle.lw_report_lines.specs.declared.script_lines.ClientHead.{ClientHead}
 use Rattle.lw_report_lines.specs.LineParts.{after, number, spaced, word, is_end}
 
@@ -41,19 +41,19 @@ ended rest x = if is_end rest then Some x else None
 -- what one number, of 32 or of 64 bits, says where the line ends behind it
 abbrev pub last32 : List ℕ → Option ℕ
 last32 l = do
-  n ← spaced u32_max l
+  n ← spaced greatest_u32 l
   ended n.1 n.0
 
 abbrev pub last64 : List ℕ → Option ℕ
 last64 l = do
-  n ← spaced u64_max l
+  n ← spaced greatest_u64 l
   ended n.1 n.0
 
 abbrev pub hop_in : List ℕ → Option Hop
 hop_in l = do
   a ← after (codes "hop") l
-  round ← spaced u32_max a
-  reactor ← spaced u32_max round.1
+  round ← spaced greatest_u32 a
+  reactor ← spaced greatest_u32 round.1
   ended reactor.1 (record { round = round.0; reactor = reactor.0 })
 
 -- what is read behind a text, where the line goes on with it, and else another choice
@@ -62,15 +62,15 @@ choose text l behind other = elim (after text l) [ Some rest ↦ behind rest | N
 
 abbrev pub visit_in : List ℕ → Option What
 visit_in l = do
-  origin ← spaced u32_max l
-  k ← spaced u32_max origin.1
-  d ← spaced u32_max k.1
+  origin ← spaced greatest_u32 l
+  k ← spaced greatest_u32 origin.1
+  d ← spaced greatest_u32 k.1
   ended d.1 (what.Visit origin.0 k.0 d.0)
 
 abbrev pub cast_in : List ℕ → Option What
 cast_in l = do
-  origin ← spaced u32_max l
-  k ← spaced u32_max origin.1
+  origin ← spaced greatest_u32 l
+  k ← spaced greatest_u32 origin.1
   ended k.1 (what.Cast origin.0 k.0)
 
 -- what a message is for. A word that another begins with stands behind it.
@@ -89,8 +89,8 @@ what_in l =
 abbrev pub ran_in : List ℕ → Option Tag
 ran_in l = do
   a ← after (codes "ran") l
-  sender ← spaced u32_max a
-  number ← spaced u64_max sender.1
+  sender ← spaced greatest_u32 a
+  number ← spaced greatest_u64 sender.1
   w ← what_in number.1
   Some (record { sender = sender.0; number = number.0; what = w })
 
@@ -112,8 +112,8 @@ answer_in l =
 abbrev pub did_in : List ℕ → Option Did
 did_in l = do
   a ← after (codes "did") l
-  at ← spaced u64_max a
-  k ← spaced u32_max at.1
+  at ← spaced greatest_u64 a
+  k ← spaced greatest_u32 at.1
   x ← answer_in k.1
   Some (record { at = at.0; op = k.0; answer = x })
 
@@ -121,7 +121,7 @@ did_in l = do
 abbrev pub called_in : ℕ → List ℕ → Option Called
 called_in images l = do
   a ← after (codes "called") l
-  at ← spaced u64_max a
+  at ← spaced greatest_u64 a
   d ← last32 at.1
   if nat_lt d images then Some (record { at = at.0; device = d }) else None
 
@@ -154,16 +154,16 @@ replied_in l =
 abbrev pub reply_in : List ℕ → Option Reply
 reply_in l = do
   a ← after (codes "reply") l
-  k ← spaced u32_max a
+  k ← spaced greatest_u32 a
   x ← replied_in k.1
   Some (record { op = k.0; answer = x })
 
 -- a thread and what it had submitted, behind a space, and the bytes behind them
 abbrev pub mark : List ℕ → Option (Mark × List ℕ)
 mark l = do
-  thread ← spaced u32_max l
+  thread ← spaced greatest_u32 l
   rest ← after (codes ":") thread.1
-  submitted ← number u64_max rest
+  submitted ← number greatest_u64 rest
   Some (record { thread = thread.0; submitted = submitted.0 }, submitted.1)
 
 -- so many results, up to the end of the line
@@ -181,12 +181,12 @@ is_space b = b == 32
 abbrev pub results_in : List ℕ → Option SeenBy
 results_in l =
     let count = length (filter is_space l) in
-    if count == 0 || is_some (mark l) then option_map by.Visit (results mark count l) else option_map by.Cast (results (spaced u32_max) count l)
+    if count == 0 || is_some (mark l) then option_map by.Visit (results mark count l) else option_map by.Cast (results (spaced greatest_u32) count l)
 
 abbrev pub seen_in : List ℕ → Option Seen
 seen_in l = do
   a ← after (codes "seen") l
-  k ← spaced u32_max a
+  k ← spaced greatest_u32 a
   x ← results_in k.1
   Some (record { op = k.0; results = x })
 
@@ -194,7 +194,7 @@ seen_in l = do
 abbrev pub thread_in : RoleKind → ℕ → List ℕ → Option ℕ
 thread_in role n l = do
   a ← after (codes "thread") l
-  t ← spaced u64_max a
+  t ← spaced greatest_u64 a
   b ← after (codes " ") t.1
   c ← after (role_word role) b
   home ← last32 c
@@ -204,9 +204,9 @@ thread_in role n l = do
 abbrev pub device_in : ℕ → List ℕ → Option DeviceEnd
 device_in n l = do
   a ← after (codes "device") l
-  d ← spaced u64_max a
-  given ← spaced u64_max d.1
-  thread ← spaced u32_max given.1
+  d ← spaced greatest_u64 a
+  given ← spaced greatest_u64 d.1
+  thread ← spaced greatest_u32 given.1
   callbacks ← last32 thread.1
   if d.0 == n then Some (record { given = given.0; thread = thread.0; callbacks = callbacks }) else None
 
@@ -225,7 +225,7 @@ number_in text least most l = do
 abbrev pub pair_in : List ℕ → List ℕ → Option Home
 pair_in text l = do
   a ← after text l
-  small ← spaced u32_max a
+  small ← spaced greatest_u32 a
   large ← last32 small.1
   Some (record { small = small.0; large = large })
 
@@ -237,7 +237,7 @@ abbrev pub image_in : List ℕ → Option ImageOf
 image_in l = do
   a ← after (codes "image") l
   w ← word a
-  block ← spaced u32_max w.1
+  block ← spaced greatest_u32 w.1
   blocks ← last64 block.1
   Some (record { name = name_of w.0; block = block.0; blocks = blocks })
 
@@ -245,22 +245,22 @@ abbrev pub client_in : List ℕ → Option ClientHead
 client_in l = do
   a ← after (codes "client") l
   w ← word a
-  depth ← spaced u32_max w.1
+  depth ← spaced greatest_u32 w.1
   ops ← last64 depth.1
   Some (record { name = name_of w.0; depth = depth.0; ops = ops })
 
 abbrev pub write_in : List ℕ → Option Op
 write_in l = do
-  d ← spaced u32_max l
-  start ← spaced u64_max d.1
-  count ← spaced u64_max start.1
+  d ← spaced greatest_u32 l
+  start ← spaced greatest_u64 d.1
+  count ← spaced greatest_u64 start.1
   digits ← last_digits count.1
   Some (op.Write d.0 start.0 count.0 (pattern_of digits))
 
 abbrev pub read_in : List ℕ → Option Op
 read_in l = do
-  d ← spaced u32_max l
-  start ← spaced u64_max d.1
+  d ← spaced greatest_u32 l
+  start ← spaced greatest_u64 d.1
   count ← last64 start.1
   Some (op.Read d.0 start.0 count)
 

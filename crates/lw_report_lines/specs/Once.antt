@@ -1,13 +1,13 @@
 -- The lines that stand once in a report, by what they are.
 use Rattle.std.specs.Prelude.{ℕ, List, codes, if◌then◌else◌, is_some, Option, Some, None}
 use Rattle.lw_base.specs.declared.ends.Home.{Home}
+use Rattle.lw_base.specs.Words.{greatest_u64}
 use Rattle.lw_report_lines.specs.declared.single.FixedLine.{FixedLine}
 use Rattle.lw_report_lines.specs.declared.single.FixedLine.TheVariants.{Title, StaticScheduler, End}
 use Rattle.lw_report_lines.specs.declared.single.NumberLine.{NumberLine}
 use Rattle.lw_report_lines.specs.declared.single.NumberLine.TheVariants.{Period, Images, Clients}
 use Rattle.lw_report_lines.specs.declared.single.PairLine.{PairLine}
 use Rattle.lw_report_lines.specs.declared.single.PairLine.TheVariants.{Pool, Left}
-use Rattle.lw_model.specs.Ranges.{u64_max}
 use Rattle.lw_report_lines.specs.LineKinds.{text_in, number_in, pair_in}
 
 abbrev pub fixed_text : FixedLine → List ℕ
@@ -31,8 +31,8 @@ number_least Clients = 0
 
 abbrev pub number_most : NumberLine → ℕ
 number_most Period = 1000000000000
-number_most Images = u64_max
-number_most Clients = u64_max
+number_most Images = greatest_u64
+number_most Clients = greatest_u64
 
 -- a word and a number within its limits
 abbrev pub number_of_in : NumberLine → List ℕ → Option ℕ

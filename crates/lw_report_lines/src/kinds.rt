@@ -1,8 +1,8 @@
 //! The lines of a report, one kind a function: what a line says, where it is one of the kind.
 ghost use Rattle.std.specs.Prelude.{◌≡◌, ℕ, List, IfOk, MatchOption, Some, None, option_map, filter, length};
 ghost use Rattle.std.specs.List.{list_all};
+ghost use Rattle.lw_base.specs.Words.{greatest_u32};
 ghost use Rattle.lw_report_lines.specs.LineKinds.{ended, last32, last64, hop_in, visit_in, cast_in, what_in, ran_in, answer_in, did_in, called_in, is_no_capital, last_digits, decoded, bytes_in, replied_in, reply_in, mark, results, is_space, results_in, seen_in};
-ghost use Rattle.lw_model.specs.Ranges.{u32_max};
 ghost use Rattle.lw_report_lines.specs.LineParts.{spaced};
 
 use crate::parts::{after, is_end, number, number32, number64, word};
@@ -310,7 +310,7 @@ fn marks(alloc: Global, count: usize, line: &[u8]) -> Result<Option<Items<Mark>>
 }
 
 fn threads(alloc: Global, count: usize, line: &[u8]) -> Result<Option<Items<u32>>, NoMemory>
-    ensures { IfOk result (λ o. o ≡ results (spaced u32_max) count line.now) }
+    ensures { IfOk result (λ o. o ≡ results (spaced greatest_u32) count line.now) }
 {
     let mut items = Vec::new(alloc);
     let mut rest = line;

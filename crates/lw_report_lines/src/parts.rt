@@ -1,7 +1,7 @@
 //! The parts of a line, read from its front. A line here ends with its line feed.
 ghost use Rattle.std.specs.Prelude.{◌≡◌, ℕ, ◌≤◌, ◌^◌, [], ◌∷◌, length, min, position, take, drop, Some, None, IfSome, IfNone, MatchOption};
 ghost use Rattle.lw_base.specs.TextLines.{value_from};
-ghost use Rattle.lw_model.specs.Ranges.{u32_max, u64_max};
+ghost use Rattle.lw_base.specs.Words.{greatest_u32, greatest_u64};
 ghost use Rattle.lw_report_lines.specs.LineParts.{after, number, spaced, word, is_end, is_plain, is_digit, is_no_digit, digit_count, ends_word, word_length};
 
 /// The bytes behind a text, where they begin with it.
@@ -101,16 +101,16 @@ pub fn number(bytes: &[u8], most: u64) -> Option<(u64, &[u8])>
 
 /// A number of 64 bits behind a space, and the bytes behind it.
 pub fn number64(bytes: &[u8]) -> Option<(u64, &[u8])>
-    ensures { MatchOption result (spaced u64_max bytes.now ≡ None)
-        (λ p. spaced u64_max bytes.now ≡ Some (p.0, p.1.now)) }
+    ensures { MatchOption result (spaced greatest_u64 bytes.now ≡ None)
+        (λ p. spaced greatest_u64 bytes.now ≡ Some (p.0, p.1.now)) }
 {
     number(after(bytes, " ")?, u64::MAX)
 }
 
 /// A number of 32 bits behind a space, and the bytes behind it.
 pub fn number32(bytes: &[u8]) -> Option<(u32, &[u8])>
-    ensures { MatchOption result (spaced u32_max bytes.now ≡ None)
-        (λ p. spaced u32_max bytes.now ≡ Some (p.0, p.1.now)) }
+    ensures { MatchOption result (spaced greatest_u32 bytes.now ≡ None)
+        (λ p. spaced greatest_u32 bytes.now ≡ Some (p.0, p.1.now)) }
 {
     match number(after(bytes, " ")?, u32::MAX as u64) {
         Some((value, rest)) => Some((value as u32, rest)),

@@ -1,6 +1,6 @@
 -- Each kind of step keeps the rule of the queue.
 use Rattle.std.proofs.Common.{◌≡◌, ◌≢◌, ◌⊎◌, inl, inr, ℕ, zero, suc, ◌+◌, ◌<◌, ◌≤◌, true, false, true≢false, eqb, List, [], ◌∷◌, ◌++◌, map, length, set, Option, if◌then◌else◌, refl, sym, ap, ◌∙◌, subst, ⊎_elim, arith, append_assoc, length-append, length-set, get_or, All}
-use Rattle.std.proofs.lemmas.List.{append-nil, map-append, length-map}
+use Rattle.std.proofs.lemmas.List.{append-nil, map-append, length-map, nil_from_length}
 use Rattle.std.proofs.lemmas.List.Elements.{All-nil, All-append}
 use mathlib.Core.Option.{some, some-injective, some-ne-none}
 use mathlib.Core.Logic.{dite}
@@ -57,10 +57,6 @@ at_past : {L : Type 0} (xs : List (List L)) (k : ℕ) → length xs ≤ k → li
 at_past [] k l = refl
 at_past (x ∷ xs) zero l = absurd (omega arith)
 at_past (x ∷ xs) (suc k) l = at_past xs k (omega arith)
-
-no_letters : {X : Type 0} (xs : List X) → length xs ≡ 0 → xs ≡ []
-no_letters [] e = refl
-no_letters (x ∷ xs) e = absurd (omega arith)
 
 module _ {T L F : Type 0} (letter : T → L) (tag_of : L → Tag) (fits : ℕ → F → T → Type 0) where
   abbrev V : Type 0
@@ -238,7 +234,7 @@ module _ {T L F : Type 0} (letter : T → L) (tag_of : L → Tag) (fits : ℕ �
       let whole : List L = f.got ++ map letter (xs ++ items) in
       let split : whole ≡ (f.got ++ ls) ++ map letter items = ap (λ ys. f.got ++ ys) (map-append letter xs items) ∙ sym (append_assoc f.got ls (map letter items)) in
       let fit : All (FR f.number f.family) xs = All-front (FR f.number f.family) xs items h.fitting in
-      let none : (p : ℕ) → v.made ≤ p → sent_by tag_of p ls ≡ [] = λ p le. no_letters (sent_by tag_of p ls)
+      let none : (p : ℕ) → v.made ≤ p → sent_by tag_of p ls ≡ [] = λ p le. nil_from_length (sent_by tag_of p ls)
       (let e = ap length (sym (ap (sent_by tag_of p) split) ∙ h.delivered p ∙ (mine.later p le).1) in
       let a = ap length (sent_by-append tag_of p (f.got ++ ls) (map letter items)) in
       let b = ap length (sent_by-append tag_of p f.got ls) in

@@ -34,7 +34,3 @@ total_length-below (x ∷ xs) = let r = total_length-below xs in let s = below_f
 pub receiving_more : (l : Option RingEnd) (n f t u : ℕ) → (closed_of l ≡ 1 → t ≡ u) → Receiving l n f t → Receiving l n f u
 receiving_more None n f t u same r = tt
 receiving_more (Some e) n f t u same r = record { parts = r.parts; finished = r.finished; closed_at = λ c. r.closed_at c ∙ same c }
-
-pub none_left : {X : Type 0} (xs : List X) → length xs ≡ 0 → xs ≡ []
-none_left [] e = refl
-none_left (x ∷ xs) e = absurd (omega arith)

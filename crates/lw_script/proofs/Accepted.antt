@@ -8,7 +8,7 @@ use Rattle.lw_model.specs.declared.refusal.ScriptRefusal.TheVariants.{TooLong, N
 use Rattle.lw_model.specs.ScriptRules.{rule_broken}
 use Rattle.lw_model.specs.ScriptShape.{value_answers, script_in}
 use Rattle.lw_model.specs.ScriptText.{value_of, refusal_of, refusal_by_value, script_of}
-use Rattle.lw_script.specs.Served.{is_served, unserved, run_refusal}
+use Rattle.lw_script_rules.specs.Served.{is_served, unserved, run_refusal}
 use Rattle.lw_model.proofs.Rules.{each-none}
 
 -- where neither refuses, both are none

@@ -5,6 +5,7 @@ use Rattle.std.specs.Option.{option_or}
 use Rattle.std.proofs.Math.Nat.{min-eq_left, min-eq_right, le-mul_of_pos_right}
 use Rattle.std.proofs.lemmas.List.{length-map}
 use Rattle.std.proofs.lemmas.List.Folds.{list_all-map}
+use Rattle.lw_base.proofs.Bools.{and_first, and_second}
 use Rattle.lw_model.specs.declared.script.Script.{Script}
 use Rattle.lw_model.specs.declared.script.ImageOf.{ImageOf}
 use Rattle.lw_model.specs.declared.script.ClientOf.{ClientOf}
@@ -13,18 +14,10 @@ use Rattle.lw_model.specs.declared.refusal.ScriptRefusal.TheVariants.{Limit, Nam
 use Rattle.lw_model.specs.ScriptRules.{unless, first_some, rule_broken, is_within, is_among, has_image_count, has_block_sizes, has_image_sizes, has_client_count, has_depths, has_op_count, has_pool_counts, has_round_count, has_wait_times, has_names, first_out_of_range, first_bad_pattern}
 use Rattle.lw_model.proofs.Rules.{kept}
 use Rattle.lw_script.specs.Fitted.{fitted, fitted_image, fitted_client, fitted_script}
-use Rattle.lw_script.proofs.RuleLemmas.{first_some-append}
+use Rattle.lw_script_rules.proofs.RuleLemmas.{first_some-append}
 use Rattle.lw_model.proofs.Passing.{list_all-same}
 
 -- ---- numbers
-
-left-of : (a b : Bool) → (a && b) ≡ true → a ≡ true
-left-of true b e = refl
-left-of false b e = e
-
-right-of : (a b : Bool) → (a && b) ≡ true → b ≡ true
-right-of true b e = e
-right-of false b e = let wrong : false ≡ true = e in cc
 
 small-same : (n : ℕ) → n ≤ 4294967295 → fitted n ≡ n
 small-same n small = min-eq_left small
@@ -45,17 +38,17 @@ same-test p top passes n = by_size (nat_le n 4294967295) refl
 
 among-le : (ms : List ℕ) (n k : ℕ) → list_all (λ m. nat_le m k) ms ≡ true → is_among ms n ≡ true → n ≤ k
 among-le [] n k all e = let wrong : false ≡ true = e in cc
-among-le (m ∷ ms) n k all e = by_test (m == n) refl e (among-le ms n k (right-of (nat_le m k) (list_all (λ i. nat_le i k) ms) all))
+among-le (m ∷ ms) n k all e = by_test (m == n) refl e (among-le ms n k (and_second (nat_le m k) (list_all (λ i. nat_le i k) ms) all))
   where
     by_test : (t : Bool) → (m == n) ≡ t → is_among (m ∷ ms) n ≡ true → (is_among ms n ≡ true → n ≤ k) → n ≤ k
     by_test true same found later =
-        let low : m ≤ k = leb-true m k (left-of (nat_le m k) (list_all (λ i. nat_le i k) ms) all) in
+        let low : m ≤ k = leb-true m k (and_first (nat_le m k) (list_all (λ i. nat_le i k) ms) all) in
         let here : m ≡ n = eqb-true m n same in
         omega (arith, low, here)
     by_test false other found later = later (sym (ap (λ b. b || is_among ms n) other) ∙ found)
 
 within-le : (low high n : ℕ) → is_within low high n ≡ true → n ≤ high
-within-le low high n e = leb-true n high (right-of (nat_le low n) (nat_le n high) e)
+within-le low high n e = leb-true n high (and_second (nat_le low n) (nat_le n high) e)
 
 abbrev blocks : List ℕ
 blocks = 16 ∷ 32 ∷ 64 ∷ 128 ∷ 256 ∷ 512 ∷ 1024 ∷ 2048 ∷ 4096 ∷ []
@@ -75,8 +68,8 @@ is_size count size = nat_lt 0 count && nat_le (count * size) 16777216
 
 size-small : (count n : ℕ) → is_size count n ≡ true → n ≤ 4294967295
 size-small count n e =
-    let some : 0 < count = ltb-true 0 count (left-of (nat_lt 0 count) (nat_le (count * n) 16777216) e) in
-    let all : count * n ≤ 16777216 = leb-true (count * n) 16777216 (right-of (nat_lt 0 count) (nat_le (count * n) 16777216) e) in
+    let some : 0 < count = ltb-true 0 count (and_first (nat_lt 0 count) (nat_le (count * n) 16777216) e) in
+    let all : count * n ≤ 16777216 = leb-true (count * n) 16777216 (and_second (nat_lt 0 count) (nat_le (count * n) 16777216) e) in
     let more : n ≤ n * count = le-mul_of_pos_right n some in
     let flipped = mul_comm n count in
     omega (arith, all, more, flipped)
@@ -86,8 +79,8 @@ size-top count = by_test (is_size count 4294967295) refl
   where
     by_test : (t : Bool) → is_size count 4294967295 ≡ t → is_size count 4294967295 ≡ false
     by_test true e =
-        let some : 0 < count = ltb-true 0 count (left-of (nat_lt 0 count) (nat_le (count * 4294967295) 16777216) e) in
-        let all : count * 4294967295 ≤ 16777216 = leb-true (count * 4294967295) 16777216 (right-of (nat_lt 0 count) (nat_le (count * 4294967295) 16777216) e) in
+        let some : 0 < count = ltb-true 0 count (and_first (nat_lt 0 count) (nat_le (count * 4294967295) 16777216) e) in
+        let all : count * 4294967295 ≤ 16777216 = leb-true (count * 4294967295) 16777216 (and_second (nat_lt 0 count) (nat_le (count * 4294967295) 16777216) e) in
         absurd (omega (arith, some, all))
     by_test false e = e
 
@@ -96,7 +89,7 @@ size-top count = by_test (is_size count 4294967295) refl
 -- what passes a test stays the same
 map-kept : {X : Type 0} (p : X → Bool) (f : X → X) → ((x : X) → p x ≡ true → f x ≡ x) → (xs : List X) → list_all p xs ≡ true → map f xs ≡ xs
 map-kept p f kept [] e = refl
-map-kept p f kept (x ∷ xs) e = ap (λ y. y ∷ map f xs) (kept x (left-of (p x) (list_all p xs) e)) ∙ ap (λ t. x ∷ t) (map-kept p f kept xs (right-of (p x) (list_all p xs) e))
+map-kept p f kept (x ∷ xs) e = ap (λ y. y ∷ map f xs) (kept x (and_first (p x) (list_all p xs) e)) ∙ ap (λ t. x ∷ t) (map-kept p f kept xs (and_second (p x) (list_all p xs) e))
 
 ops-same : (cs : List ClientOf) → flat_map (λ c. c.ops) (map fitted_client cs) ≡ flat_map (λ c. c.ops) cs
 ops-same [] = refl
@@ -170,8 +163,8 @@ same-within s e =
     let pools-kept = kept (head s) 6 (has_pool_counts s) (Limit 7) e refl in
     let images = map-kept (λ i. is_among blocks i.block) fitted_image (λ i is. ap (λ b. record { name = i.name; block = b; blocks = i.blocks }) (small-same i.block (block-small i.block is))) s.images blocks-kept in
     let clients = map-kept (λ c. is_within 1 32 c.depth) fitted_client (λ c is. ap (λ d. record { name = c.name; depth = d; ops = c.ops }) (small-same c.depth (depth-small c.depth is))) s.clients depths-kept in
-    let small = small-same s.small (count-small s.small (left-of (is_within 1 1024 s.small) (is_within 1 1024 s.large) pools-kept)) in
-    let large = small-same s.large (count-small s.large (right-of (is_within 1 1024 s.small) (is_within 1 1024 s.large) pools-kept)) in
+    let small = small-same s.small (count-small s.small (and_first (is_within 1 1024 s.small) (is_within 1 1024 s.large) pools-kept)) in
+    let large = small-same s.large (count-small s.large (and_second (is_within 1 1024 s.small) (is_within 1 1024 s.large) pools-kept)) in
     ap (λ t. made t (map fitted_client s.clients) (fitted s.small) (fitted s.large)) images
     ∙ ap (λ t. made s.images t (fitted s.small) (fitted s.large)) clients
     ∙ ap (λ t. made s.images s.clients t (fitted s.large)) small

@@ -4,8 +4,6 @@ pub mod Parts
 pub mod Places
 pub mod Noted
 pub mod Maps
-pub mod FirstFailing
-pub mod DistinctNames
-pub mod RuleLemmas
+pub mod ValueRules
 pub mod FittedLemmas
 pub mod Accepted

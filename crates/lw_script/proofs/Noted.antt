@@ -2,6 +2,7 @@
 use Rattle.std.proofs.Common.{◌≡◌, ℕ, List, Bool, true, false, cond, Option, Some, None, is_some, bytes_eq, ap, sym, ◌∙◌, refl}
 use Rattle.std.specs.Option.{option_or}
 use Rattle.std.proofs.lemmas.Slice.Eq.{bytes_eq-Decides}
+use Rattle.lw_script_rules.proofs.DistinctNames.{bytes_eq-comm}
 
 none-of : {X : Type 0} (o : Option X) → is_some o ≡ false → o ≡ None
 none-of None e = refl
@@ -10,15 +11,6 @@ none-of (Some x) e = let wrong : true ≡ false = e in cc
 option_or-none : {X : Type 0} (o : Option X) → o ≡ option_or o None
 option_or-none None = refl
 option_or-none (Some x) = refl
-
--- whichever comes first
-pub bytes_eq-comm : (x y : List ℕ) → bytes_eq x y ≡ bytes_eq y x
-bytes_eq-comm x y = by_tests (bytes_eq x y) (bytes_eq y x) refl refl
-  where
-    by_tests : (t u : Bool) → bytes_eq x y ≡ t → bytes_eq y x ≡ u → bytes_eq x y ≡ bytes_eq y x
-    by_tests true u e f = e ∙ sym ((bytes_eq-Decides y x).1 (sym ((bytes_eq-Decides x y).0 e)))
-    by_tests false true e f = (bytes_eq-Decides x y).1 (sym ((bytes_eq-Decides y x).0 f)) ∙ sym f
-    by_tests false false e f = e ∙ sym f
 
 pub noted : (old : List ℕ → Option ℕ) (name q : List ℕ) (place : ℕ) → is_some (old name) ≡ false →
     cond (bytes_eq name q) (Some place) (old q) ≡ option_or (old q) (cond (bytes_eq q name) (Some place) None)

@@ -1,9 +1,9 @@
 -- The lists and members of a value's view.
 use Rattle.std.proofs.Common.{◌≡◌, ℕ, ◌+◌, ◌∙◌, sym, ap, refl, Bool, false, ◌&&◌, ◌==◌, List, [], ◌∷◌, map, length, Option, Some, None, is_some, option_map, unwrap_or, String, Bor, add-one}
-use Rattle.std.specs.List.{list_all, flat_map}
+use Rattle.std.specs.List.{list_all}
 use Rattle.std.specs.declared.alloc.Global.{Global}
 use Rattle.std.proofs.lemmas.List.{length-map}
-use Rattle.std.proofs.lemmas.List.Folds.{list_all-map, list_all-append}
+use Rattle.std.proofs.lemmas.List.Folds.{list_all-map}
 use Rattle.serde_json.specs.declared.value.Value.{Value}
 use Rattle.serde_json.specs.Data.{Data, null, boolean, number, string, array, object}
 use Rattle.serde_json.specs.Find.{get, as_object}
@@ -42,7 +42,3 @@ all-values p o vs e = ap (λ l. list_all p (unwrap_or l [])) e ∙ list_all-map 
 
 pub all-values-there : (p : Data → Bool) (o : Option (List Data)) (vs : List Value) → o ≡ Some (map view vs) → (is_some o && list_all p (unwrap_or o [])) ≡ list_all (λ v. p (view v)) vs
 all-values-there p o vs e = ap (λ l. is_some l && list_all p (unwrap_or l [])) e ∙ list_all-map p view vs
-
-pub list_all-flat_map : {A B : Type 0} (p : B → Bool) (f : A → List B) (xs : List A) → list_all p (flat_map f xs) ≡ list_all (λ x. list_all p (f x)) xs
-list_all-flat_map p f [] = refl
-list_all-flat_map p f (x ∷ xs) = list_all-append p (f x) (flat_map f xs) ∙ ap (λ b. list_all p (f x) && b) (list_all-flat_map p f xs)

@@ -4,16 +4,14 @@ ghost use Rattle.serde_json.specs.View.{view};
 ghost use Rattle.lw_model.specs.ScriptRules.{has_image_count, rule_broken};
 ghost use Rattle.lw_model.specs.ScriptShape.{script_in, value_refusal};
 ghost use Rattle.lw_model.specs.ScriptText.{refusal_of, script_of};
-ghost use Rattle.lw_script.specs.Served.{is_served, run_refusal};
+ghost use Rattle.lw_script_rules.specs.Served.{is_served, run_refusal};
 ghost use Rattle.lw_model.specs.declared.refusal.ScriptRefusal.TheVariants.{NoMemory};
 
 use crate::build::script_in;
-use crate::limits::is_within;
-use crate::rules::rule_broken;
-use crate::served::is_served;
 use crate::shape::shape_broken;
 use crate::value::{value_of, values_under};
 use lw_model::{Script, ScriptRefusal};
+use lw_script_rules::{is_served, is_within, rule_broken};
 use serde_json::Value;
 use std::alloc::Global;
 

@@ -1,17 +1,19 @@
 -- What an accepted script of one client on one image says of its image and of the client's ops.
-use Rattle.std.proofs.Common.{ℕ, zero, suc, ◌≡◌, ◌+◌, ◌*◌, ◌≤◌, ◌<◌, Bool, true, false, List, [], ◌∷◌, ◌++◌, Option, Some, None, length, get_or, arith, refl, sym, ◌∙◌, ap, subst, nat_lt, nat_le}
-use Rattle.std.specs.Prelude.{map, find, option_map, cond, not, sum_by, ◌&&◌, ◌==◌}
+use Rattle.std.proofs.Common.{ℕ, zero, suc, ◌≡◌, ◌+◌, ◌*◌, ◌≤◌, ◌<◌, Bool, true, false, List, [], ◌∷◌, ◌++◌, None, length, get_or, arith, refl, sym, ◌∙◌, ap, subst, nat_lt, nat_le}
+use Rattle.std.specs.Prelude.{map, sum_by, ◌&&◌, ◌==◌}
 use Rattle.std.specs.List.{AllByRecursion, list_all, enumerate_from}
 use Rattle.std.proofs.lemmas.List.Elements.{All-from_recursion}
 use Rattle.std.proofs.lemmas.Bool.{ltb-true, leb-true, eqb-true}
+use Rattle.lw_base.proofs.Bools.{and_first, and_second}
+use Rattle.lw_base.proofs.Lists.{none_mapped}
 use Rattle.lw_model.specs.declared.script.Script.{Script}
 use Rattle.lw_model.specs.declared.script.ClientOf.{ClientOf}
 use Rattle.lw_model.specs.declared.script.ImageOf.{ImageOf}
 use Rattle.lw_model.specs.declared.script.Op.{Op}
 use Rattle.lw_model.specs.declared.script.Op.TheVariants as op
 use Rattle.lw_model.specs.declared.refusal.ScriptRefusal.TheVariants.{Name, Range, Pattern, Limit}
-use Rattle.lw_model.specs.ScriptRules.{is_within, has_depths, Placed, placed_ops, with_earlier, first_failing, first_out_of_range, first_bad_pattern, is_in_range, is_in_range_after, is_pattern, read_bytes, rule_broken, rule_answers, has_names, names_an_image, all_ops}
-use Rattle.lw_script.specs.Served.{is_served, is_basic}
+use Rattle.lw_model.specs.ScriptRules.{is_within, has_depths, Placed, placed_ops, first_failing, first_out_of_range, first_bad_pattern, is_in_range, is_in_range_after, is_pattern, read_bytes, rule_broken, rule_answers, has_names, names_an_image, all_ops}
+use Rattle.lw_script_rules.specs.Served.{is_served, is_basic}
 use Rattle.lw_model.proofs.Rules.{each-none, kept, each_passes}
 use Rattle.lw_target.specs.Messages.{IsWithin, operands}
 use Rattle.lw_target.specs.Ops.{asks_bytes, is_servable}
@@ -20,18 +22,6 @@ use Rattle.lw_target.specs.Turns.{OpsFit}
 -- the script of one client on one image
 abbrev pub one : ImageOf → ClientOf → ℕ → ℕ → Script
 one image client small large = record { images = image ∷ []; clients = client ∷ []; small = small; large = large }
-
-none_mapped : {A B : Type 0} (f : A → B) (o : Option A) → option_map f o ≡ None → o ≡ None
-none_mapped f None e = refl
-none_mapped f (Some x) e = let wrong : Some (f x) ≡ None = e in cc
-
-and_first : (p q : Bool) → (p && q) ≡ true → p ≡ true
-and_first true q e = refl
-and_first false q e = let wrong : false ≡ true = e in cc
-
-and_second : (p q : Bool) → (p && q) ≡ true → q ≡ true
-and_second true q e = e
-and_second false q e = let wrong : false ≡ true = e in cc
 
 -- where no op fails a test, each op passes it behind some others
 -- the ops of one client, each with its place

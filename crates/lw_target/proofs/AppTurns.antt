@@ -15,6 +15,7 @@ use Rattle.lw_model.specs.declared.record.Answer.TheVariants.{Began}
 use Rattle.lw_model.specs.Threads.{is_on}
 use Rattle.lw_model.specs.Holding.{is_putself, ordinal_given}
 use Rattle.lw_model.specs.Lawful.{reply_op}
+use Rattle.lw_model.specs.Sent.{to_thread}
 use Rattle.lw_image.specs.Image.{Contents, IsAfter}
 use Rattle.lw_target.specs.declared.mail.Mail.{Mail}
 use Rattle.lw_target.specs.declared.mail.Load.TheVariants as load
@@ -27,7 +28,7 @@ use Rattle.lw_target.specs.Messages.{Inbox, Asked}
 use Rattle.lw_target.specs.App.{IsDue, IsUnused, Ends, unregistered, called_back}
 use Rattle.lw_target.specs.ClientLog.{Follows, sent_so_far, was_refused, steps_so_far}
 use Rattle.lw_target.specs.ClientCalls.{AllAgree, pending_of, reply_carried}
-use Rattle.lw_target.specs.WholeRun.{sent_to, requests_of, answers_of, reply_pairs}
+use Rattle.lw_target.specs.WholeRun.{requests_of, answers_of, reply_pairs}
 use Rattle.lw_target.specs.Letters.{Letter, letters, told, said_by, posted, Got}
 use Rattle.lw_target.specs.InOrder.{is_to_app, is_to_client, IsToOwner, is_reply_to, is_request_of, past_requests, AreAddressed, IsClientInOrder, IsTold, IsAnswered, IsFresh, IsOver}
 use Rattle.lw_target.proofs.Mails.{list_all_push}
@@ -160,8 +161,8 @@ module _ (s : Script) (c : Client) (image : Contents) (app app' client client' o
   posted_told t none =
       let same : sent_so_far s c client'.ran ≡ sent_so_far s c client.ran = ap (sent_so_far s c) to_client.ran in
       record {
-        to_itself = told_got 1 client client' [] to_client ∙ append-nil (told client 1) ∙ t.to_itself ∙ sym (ap (sent_to 1) same);
-        to_owner = told_got 1 owner owner' more to_owner ∙ ap (λ q. told owner 1 ++ q) none ∙ append-nil (told owner 1) ∙ t.to_owner ∙ sym (ap (sent_to 2) same);
+        to_itself = told_got 1 client client' [] to_client ∙ append-nil (told client 1) ∙ t.to_itself ∙ sym (ap (to_thread 1) same);
+        to_owner = told_got 1 owner owner' more to_owner ∙ ap (λ q. told owner 1 ++ q) none ∙ append-nil (told owner 1) ∙ t.to_owner ∙ sym (ap (to_thread 2) same);
       }
 
   pub posted_answered : IsAnswered s c client owner image → IsAnswered s c client' owner' image

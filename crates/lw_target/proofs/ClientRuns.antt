@@ -13,6 +13,7 @@ use Rattle.lw_model.specs.declared.record.Reply.{Reply}
 use Rattle.lw_model.specs.declared.record.Answer.TheVariants as answer
 use Rattle.lw_model.specs.Holding.{is_putself}
 use Rattle.lw_model.specs.Lawful.{reply_op}
+use Rattle.lw_model.specs.Sent.{to_thread}
 use Rattle.lw_image.specs.Image.{Contents}
 use Rattle.lw_target.specs.declared.mail.Mail.{Mail}
 use Rattle.lw_target.specs.declared.mail.Load.{Load}
@@ -23,7 +24,7 @@ use Rattle.lw_target.specs.declared.device.Device.{Device}
 use Rattle.lw_target.specs.Messages.{Inbox}
 use Rattle.lw_target.specs.ClientLog.{Follows, sent_so_far, was_refused}
 use Rattle.lw_target.specs.ClientCalls.{RanMessage, AllAgree, ends_of, still_unanswered, reply_carried}
-use Rattle.lw_target.specs.WholeRun.{sent_to, reply_pairs}
+use Rattle.lw_target.specs.WholeRun.{reply_pairs}
 use Rattle.lw_target.specs.Letters.{Letter, letters}
 use Rattle.lw_target.specs.InOrder.{is_to_client, is_replied, is_reply_to, is_request_of, AreAddressed, IsClientInOrder, IsTold, IsAnswered, IsAppInOrder, IsFresh, IsOver}
 use Rattle.lw_target.proofs.Mails.{list_all_push}
@@ -179,8 +180,8 @@ module _ (s : Script) (old new : Client) (before after : Inbox) (m : Mail) (r : 
   told_on devices owner k t =
       let same : sent_so_far s new after.ran ≡ sent_so_far s old before.ran = ap (sent_so_far s new) ran ∙ r.sends s before.ran k.follows in
       record {
-        to_itself = told_take 1 before after m first ran ∙ t.to_itself ∙ sym (ap (sent_to 1) same);
-        to_owner = t.to_owner ∙ sym (ap (sent_to 2) same);
+        to_itself = told_take 1 before after m first ran ∙ t.to_itself ∙ sym (ap (to_thread 1) same);
+        to_owner = t.to_owner ∙ sym (ap (to_thread 2) same);
       }
 
   pub answered_on : (app owner : Inbox) (image : Contents) → AreAddressed s app before owner → IsAnswered s old before owner image → IsAnswered s new after owner image

@@ -13,6 +13,8 @@ use Rattle.lw_model.specs.declared.record.Reply.{Reply}
 use Rattle.lw_model.specs.Threads.{ops_of}
 use Rattle.lw_model.specs.Holding.{is_putself}
 use Rattle.lw_model.specs.Lawful.{reply_op}
+use Rattle.lw_model.specs.Sent.{to_thread}
+use Rattle.lw_model.proofs.SentLists.{to_thread-append}
 use Rattle.lw_image.specs.Image.{Contents, IsAfter}
 use Rattle.lw_target.specs.declared.app.App.{App}
 use Rattle.lw_target.specs.declared.client.Client.{Client}
@@ -22,11 +24,11 @@ use Rattle.lw_target.specs.Messages.{Inbox, Asked}
 use Rattle.lw_target.specs.Ops.{AllOfOps}
 use Rattle.lw_target.specs.ClientLog.{Follows, sent_so_far, was_refused}
 use Rattle.lw_target.specs.ClientCalls.{WentOn, AllAgree, ends_of, all_usable, receivers, requested, reply_carried, pending_of, putselfs_to}
-use Rattle.lw_target.specs.WholeRun.{sent_to, reply_pairs, requests_of, answers_of}
+use Rattle.lw_target.specs.WholeRun.{reply_pairs, requests_of, answers_of}
 use Rattle.lw_target.specs.Letters.{Letter, letters, told, said_by, posted, Got}
 use Rattle.lw_target.specs.InOrder.{IsOfOne, is_to_client, is_to_app, IsToOwner, is_reply_to, is_request_of, past_requests, AreAddressed, IsClientInOrder, IsTold, IsAnswered, IsAppInOrder, IsFresh, IsOver}
 use Rattle.lw_target.proofs.Numbers.{count_append}
-use Rattle.lw_target.proofs.Told.{is_routed, told_got, said_of_own, said_of_others, sent_append}
+use Rattle.lw_target.proofs.Told.{is_routed, told_got, said_of_own, said_of_others}
 use Rattle.lw_target.proofs.Sends.{thread_is, so_far_routed, so_far_to_app, app_fits, client_fits, none_carried, owner_fits_all, posted_whats, puts_counted, requests_counted}
 use Rattle.lw_target.proofs.OwnerRuns.{AreInOrder}
 
@@ -74,8 +76,8 @@ module _ (s : Script) (old new : Client) (a : App) (image : Contents) (before af
   routed = (and_parts (list_all is_routed (sent_so_far s old client.ran)) (list_all is_routed (receivers after.sends))
       (sym (list_all-append is_routed (sent_so_far s old client.ran) (receivers after.sends)) ∙ sym (ap (list_all is_routed) sent) ∙ so_far_routed s new client.ran one is_thread)).1
 
-  sent_all : (n : ℕ) → sent_to n (sent_so_far s new client'.ran) ≡ sent_to n (sent_so_far s old client.ran) ++ sent_to n (receivers after.sends)
-  sent_all n = ap (λ q. sent_to n (sent_so_far s new q)) to_client.ran ∙ ap (sent_to n) sent ∙ sent_append n (sent_so_far s old client.ran) (receivers after.sends)
+  sent_all : (n : ℕ) → to_thread n (sent_so_far s new client'.ran) ≡ to_thread n (sent_so_far s old client.ran) ++ to_thread n (receivers after.sends)
+  sent_all n = ap (λ q. to_thread n (sent_so_far s new q)) to_client.ran ∙ ap (to_thread n) sent ∙ to_thread-append n (sent_so_far s old client.ran) (receivers after.sends)
 
   ops : ops_of s 1 ≡ old.of.ops
   ops = subst (λ n. ops_of s n ≡ old.of.ops) was_thread h.clients.follows.of.ops
@@ -113,9 +115,9 @@ module _ (s : Script) (old new : Client) (a : App) (image : Contents) (before af
   tick_told : IsTold s new client' owner'
   tick_told = record {
     to_itself = told_got 1 client client' (posted 1 1 after.sends) to_client ∙ ap (λ q. q ++ said_by 1 (posted 1 1 after.sends)) h.sent.to_itself
-        ∙ ap (λ q. sent_to 1 (sent_so_far s old client.ran) ++ q) (said_of_own 1 1 after.sends routed) ∙ sym (sent_all 1);
+        ∙ ap (λ q. to_thread 1 (sent_so_far s old client.ran) ++ q) (said_of_own 1 1 after.sends routed) ∙ sym (sent_all 1);
     to_owner = told_got 1 owner owner' (posted 2 1 after.sends) to_owner ∙ ap (λ q. q ++ said_by 1 (posted 2 1 after.sends)) h.sent.to_owner
-        ∙ ap (λ q. sent_to 2 (sent_so_far s old client.ran) ++ q) (said_of_own 2 1 after.sends routed) ∙ sym (sent_all 2);
+        ∙ ap (λ q. to_thread 2 (sent_so_far s old client.ran) ++ q) (said_of_own 2 1 after.sends routed) ∙ sym (sent_all 2);
   }
 
   unanswered : new.unanswered.items ≡ old.unanswered.items ++ filter_map (λ (o : Outgoing). requested o.what) after.sends
@@ -144,8 +146,8 @@ module _ (s : Script) (old new : Client) (a : App) (image : Contents) (before af
   tick_app_part : IsAppInOrder a new.done app' owner' devices'
   tick_app_part =
       let now = state h.apps.device.2 in
-      let both : cond new.done (what.Done ∷ []) [] ≡ cond old.done (what.Done ∷ []) [] ++ sent_to 0 (receivers after.sends) =
-      sym (so_far_to_app s new client'.ran one is_thread) ∙ sent_all 0 ∙ ap (λ q. q ++ sent_to 0 (receivers after.sends)) (so_far_to_app s old client.ran one was_thread) in
+      let both : cond new.done (what.Done ∷ []) [] ≡ cond old.done (what.Done ∷ []) [] ++ to_thread 0 (receivers after.sends) =
+      sym (so_far_to_app s new client'.ran one is_thread) ∙ sent_all 0 ∙ ap (λ q. q ++ to_thread 0 (receivers after.sends)) (so_far_to_app s old client.ran one was_thread) in
       record {
         clients = h.apps.clients;
         device = now;

@@ -11,12 +11,14 @@ use Rattle.std.proofs.lemmas.List.Sums.{sum_by-append}
 use Rattle.lw_base.specs.declared.message.Tag.{Tag}
 use Rattle.lw_base.specs.declared.message.What.{What}
 use Rattle.lw_base.specs.declared.message.What.TheVariants as what
+use Rattle.lw_base.proofs.Lists.{none_is}
 use Rattle.lw_model.specs.declared.script.Script.{Script}
 use Rattle.lw_model.specs.declared.step.Step.TheVariants as step
 use Rattle.lw_model.specs.declared.record.Answer.{Answer}
 use Rattle.lw_model.specs.Threads.{is_on}
 use Rattle.lw_model.specs.Holding.{says, always, is_deferred, is_putself, ordinal_given}
 use Rattle.lw_model.specs.Devices.{is_refusal}
+use Rattle.lw_model.proofs.Passing.{item_passes}
 use Rattle.lw_target.specs.declared.acts.Outgoing.{Outgoing}
 use Rattle.lw_target.specs.declared.channel.Channel.{Channel}
 use Rattle.lw_target.specs.declared.client.Client.{Client}
@@ -30,8 +32,7 @@ use Rattle.lw_target.proofs.LogGrowth.{steps_did, sends_push, any_push}
 use Rattle.lw_target.proofs.Places.{got, map_kept}
 use Rattle.lw_target.proofs.RanMessages.{came_from}
 use Rattle.lw_target.proofs.Handling.{OpDone}
-use Rattle.lw_target.proofs.Replying.{list_all_found}
-use Rattle.lw_target.proofs.Listing.{known, line_of, on_op, op_follows, requested_by, putselfs_by, sends_by, pending_after, none_usable, ends_after, stands_after, given_after}
+use Rattle.lw_target.proofs.Listing.{known, line_of, on_op, op_follows, requested_by, putselfs_by, sends_by, pending_after, ends_after, stands_after, given_after}
 
 -- what the op sent
 abbrev outs_of : (old new : Client) (before after : Asked) (devices devices' : List Device) → OpDone old new before after devices devices' → List Outgoing
@@ -96,7 +97,7 @@ op_usable : (s : Script) (old new : Client) (ran : List Tag) (before after : Ask
 op_usable s old new ran before after devices devices' f h at all none =
     let w = known s old new ran before after devices devices' f h in
     let x = line_of old before f.answer in
-    let open' = none_usable f.v.shut_by (list_all_found (λ (v : Device). is_none v.shut_by) devices (device_of (action_on f.op)) f.v all f.seen) in
+    let open' = none_is f.v.shut_by (item_passes (λ (v : Device). is_none v.shut_by) devices (device_of (action_on f.op)) f.v all f.seen) in
     ap (list_any (says always is_refusal)) (steps_did old new ran x f.handled.did at h.ats)
     ∙ any_push (says always is_refusal) (steps_so_far old ran) (step.Did (length old.did) x) none (w.facts.usable open')
 

@@ -10,6 +10,7 @@ use Rattle.std.proofs.lemmas.List.Sums.{sum_by-append, sum_by-cons}
 use Rattle.lw_base.specs.declared.message.Tag.{Tag}
 use Rattle.lw_base.specs.declared.message.What.{What}
 use Rattle.lw_base.specs.declared.message.What.TheVariants as what
+use Rattle.lw_base.proofs.Bools.{and_true, and_false}
 use Rattle.lw_model.specs.declared.script.Script.{Script}
 use Rattle.lw_model.specs.declared.script.Op.{Op}
 use Rattle.lw_model.specs.declared.step.Step.{Step}
@@ -48,14 +49,6 @@ puts_requested thread d (k ∷ ks) = at (nat_lt 0 k.references) (puts_requested 
 count_first : (e d thread : ℕ) (b : Bool) (rest : List Outgoing) → putselfs_to e (cond b (putself_of thread d ∷ rest) rest) ≡ cond (b && d == e) 1 0 + putselfs_to e rest
 count_first e d thread true rest = sum_by-cons (λ (o : Outgoing). cond (is_putself e o.what) 1 0) (putself_of thread d) rest
 count_first e d thread false rest = sym (zero-add (putselfs_to e rest))
-
-and_false : (b : Bool) → (b && false) ≡ false
-and_false true = refl
-and_false false = refl
-
-and_true : (b : Bool) → (b && true) ≡ b
-and_true true = refl
-and_true false = refl
 
 count_below : (thread d e : ℕ) (ks : List Channel) → e < d → putselfs_to e (puts_of thread d ks) ≡ 0
 count_below thread d e [] h = refl

@@ -15,6 +15,7 @@ use Rattle.lw_model.specs.Threads.{is_on}
 use Rattle.lw_model.specs.Answers.{unanswered, unanswered_on}
 use Rattle.lw_base.specs.declared.message.What.{What}
 use Rattle.lw_base.specs.declared.message.What.TheVariants as what
+use Rattle.lw_base.proofs.Bools.{or_false, and_false}
 use Rattle.lw_model.specs.Holding.{says, always, is_closed, is_sent, is_deferred, is_putself, gains, loses, references, pending, held, ordinal_given}
 use Rattle.lw_target.specs.declared.channel.Channel.{Channel}
 use Rattle.lw_target.specs.Effects.{channel_after, after_put, gave_back}
@@ -94,14 +95,6 @@ count_did on f past i x = sum_by-cons (λ (p : Step). cond (says on f p) 1 0) (s
 count_here : (on : ℕ → Bool) (f : Answer → Bool) (past : List Step) (i : ℕ) (x : Did) → on x.op ≡ true
     → count_by (says on f) (step.Did i x ∷ past) ≡ cond (f x.answer) 1 0 + count_by (says on f) past
 count_here on f past i x here = count_did on f past i x ∙ ap (λ (b : Bool). cond (b && f x.answer) 1 0 + count_by (says on f) past) here
-
-or_false : (b : Bool) → (b || false) ≡ b
-or_false true = refl
-or_false false = refl
-
-pub and_false : (b : Bool) → (b && false) ≡ false
-and_false true = refl
-and_false false = refl
 
 count_none : (on : ℕ → Bool) (f : Answer → Bool) (past : List Step) (i : ℕ) (x : Did) → (on x.op && f x.answer) ≡ false
     → count_by (says on f) (step.Did i x ∷ past) ≡ count_by (says on f) past

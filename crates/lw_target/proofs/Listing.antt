@@ -1,6 +1,6 @@
 -- A client's log and state agree behind an op that it did.
-use Rattle.std.proofs.Common.{ℕ, zero, suc, ◌≡◌, ◌+◌, ◌≤◌, ◌<◌, Bool, true, false, ◌&&◌, List, [], ◌∷◌, ◌++◌, reverse, length, arith, refl, sym, ap, ap₂, ◌∙◌, subst, cond, add-one, zero-add}
-use Rattle.std.specs.Prelude.{not, ◌||◌, ◌==◌, filter, filter_map, count_by, Option, Some, None, option_map, option_to_list, is_some, is_none, slice_get, vec_len}
+use Rattle.std.proofs.Common.{ℕ, ◌≡◌, ◌+◌, ◌≤◌, ◌<◌, Bool, true, false, ◌&&◌, List, [], ◌∷◌, ◌++◌, reverse, length, arith, refl, sym, ap, ap₂, ◌∙◌, subst, cond, zero-add}
+use Rattle.std.specs.Prelude.{not, ◌||◌, ◌==◌, filter, filter_map, count_by, Option, Some, None, option_map, option_to_list, is_some, slice_get, vec_len}
 use Rattle.std.specs.List.{list_any, range_with_len, cons_option}
 use Rattle.std.proofs.lemmas.Option.{same_Some}
 use Rattle.std.proofs.lemmas.Bool.{eqb-true, eq-eqb, le-leb}
@@ -11,6 +11,8 @@ use Rattle.std.proofs.lemmas.List.Elements.{filter_map-append, filter_agree}
 use Rattle.std.proofs.lemmas.List.Sums.{count_by-le-length}
 use Rattle.lw_base.specs.declared.message.Tag.{Tag}
 use Rattle.lw_base.specs.declared.message.What.TheVariants as what
+use Rattle.lw_base.proofs.Bools.{and_true, and_false}
+use Rattle.lw_base.proofs.Lists.{range_push, reverse_cons}
 use Rattle.lw_model.specs.declared.script.Script.{Script}
 use Rattle.lw_model.specs.declared.script.Op.{Op}
 use Rattle.lw_model.specs.declared.step.Step.{Step}
@@ -21,6 +23,7 @@ use Rattle.lw_model.specs.declared.record.Answer.TheVariants as answer
 use Rattle.lw_model.specs.Threads.{is_on, ops_of, op_at, image_at, owner_of}
 use Rattle.lw_model.specs.Holding.{says, always, is_closed, is_sent, is_deferred, loses, ordinal_given}
 use Rattle.lw_model.specs.Answers.{unanswered, unanswered_on, answer_fits}
+use Rattle.lw_model.proofs.Passing.{item_passes}
 use Rattle.lw_target.specs.declared.acts.Outgoing.{Outgoing}
 use Rattle.lw_target.specs.declared.channel.Channel.{Channel}
 use Rattle.lw_target.specs.declared.client.Client.{Client}
@@ -31,12 +34,12 @@ use Rattle.lw_target.specs.Actions.{action_on, device_of, names_image}
 use Rattle.lw_target.specs.Effects.{channel_after, standing_after, device_after, sends_after}
 use Rattle.lw_target.specs.Messages.{Asked}
 use Rattle.lw_target.specs.Ops.{is_servable}
-use Rattle.lw_target.proofs.LogGrowth.{steps_did, past_push, fit_push, ats_push, reverse_cons}
-use Rattle.lw_target.proofs.Kept.{and_false, IsApt, keeps_other, keeps_op}
+use Rattle.lw_target.proofs.LogGrowth.{steps_did, past_push, fit_push, ats_push}
+use Rattle.lw_target.proofs.Kept.{IsApt, keeps_other, keeps_op}
 use Rattle.lw_target.proofs.Places.{got, counted}
 use Rattle.lw_target.proofs.RanMessages.{same_script, came_from}
 use Rattle.lw_target.proofs.Handling.{OpDone}
-use Rattle.lw_target.proofs.Replying.{list_all_found, image_is, at_client, on_client, OpFacts, facts}
+use Rattle.lw_target.proofs.Replying.{image_is, at_client, on_client, OpFacts, facts}
 
 -- ---- one op more
 
@@ -89,7 +92,7 @@ known s old new ran before after devices devices' f h =
     let going = still_going old f.more h.closed in
     let past = past_so_far old ran in
     let d = device_of (action_on f.op) in
-    let serves = list_all_found (is_servable (vec_len old.channels)) old.of.ops old.next f.op old.serves f.found in
+    let serves = item_passes (is_servable (vec_len old.channels)) old.of.ops old.next f.op old.serves f.found in
     let kept = h.devices d f.k f.kept in
     let on = λ (k : ℕ). on_client s old.thread old.of.ops d k h.of.client h.of.ops in
     record {
@@ -149,10 +152,6 @@ gets_more on steps i x n h =
     one : (o : Option ℕ) → length (cons_option o []) ≤ 1
     one None = omega arith
     one (Some n) = omega arith
-
-and_true : (b : Bool) → (b && true) ≡ b
-and_true true = refl
-and_true false = refl
 
 pub five : {a b c d e : Bool} → a ≡ true → b ≡ true → c ≡ true → d ≡ true → e ≡ true → (a && b && c && d && e) ≡ true
 five ea eb ec ed ee = rw (ea, eb, ec, ed, ee) refl
@@ -231,17 +230,6 @@ pending_after false a k = omega arith
 pending_after true (answer.Given n) k = omega arith
 pending_after true answer.Deferred k = omega arith
 pending_after true _ k = omega arith
-
-pub none_usable : {X : Type 0} (o : Option X) → is_none o ≡ true → o ≡ None
-none_usable None e = refl
-none_usable (Some x) e = let wrong : false ≡ true = e in cc
-
-range_push : (a n : ℕ) → range_with_len a (n + 1) ≡ range_with_len a n ++ (a + n) ∷ []
-range_push a n = ap (range_with_len a) (add-one n) ∙ by a n
-  where
-    by : (a n : ℕ) → range_with_len a (suc n) ≡ range_with_len a n ++ (a + n) ∷ []
-    by a zero = ap (λ (k : ℕ). k ∷ []) (omega arith)
-    by a (suc n) = ap (λ q. a ∷ q) (by (a + 1) n ∙ ap (λ (k : ℕ). range_with_len (a + 1) n ++ k ∷ []) (omega arith))
 
 pub ends_after : (a : Answer) (v : Device) → ◌≡◌ {A = Option ℕ × ℕ} ((device_after a v).shut_by, (device_after a v).callbacks) (v.shut_by, v.callbacks)
 ends_after (answer.Given n) v = refl

@@ -119,6 +119,3 @@ filter_reverse p (x ∷ xs) =
     at : (b : Bool) → reverse (filter p xs) ++ cond b (x ∷ []) [] ≡ reverse (cond b (x ∷ filter p xs) (filter p xs))
     at true = sym (reverse-append (x ∷ []) (filter p xs))
     at false = append-nil (reverse (filter p xs))
-
-pub reverse_cons : {X : Type 0} (x : X) (xs : List X) → reverse (x ∷ xs) ≡ reverse xs ++ x ∷ []
-reverse_cons x xs = reverse-append (x ∷ []) xs

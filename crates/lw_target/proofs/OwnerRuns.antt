@@ -19,6 +19,7 @@ use Rattle.lw_model.specs.Journal.{request_of}
 use Rattle.lw_model.specs.Threads.{op_at}
 use Rattle.lw_model.specs.Holding.{is_putself}
 use Rattle.lw_model.specs.Lawful.{reply_op}
+use Rattle.lw_model.specs.Sent.{to_thread}
 use Rattle.lw_image.specs.Image.{Contents, IsAfter}
 use Rattle.lw_target.specs.declared.mail.Mail.{Mail}
 use Rattle.lw_target.specs.declared.mail.Load.{Load}
@@ -32,7 +33,7 @@ use Rattle.lw_target.specs.Messages.{Inbox, operands}
 use Rattle.lw_target.specs.ClientLog.{Follows, sent_so_far, was_refused}
 use Rattle.lw_target.specs.ClientCalls.{AllAgree, reply_carried}
 use Rattle.lw_target.specs.Owner.{AnswersAs, Serves}
-use Rattle.lw_target.specs.WholeRun.{sent_to, reply_pairs, requests_of, answers_of}
+use Rattle.lw_target.specs.WholeRun.{reply_pairs, requests_of, answers_of}
 use Rattle.lw_target.specs.Letters.{Letter, letters, told, said_by, posted, Got}
 use Rattle.lw_target.specs.InOrder.{is_to_client, is_to_app, IsToOwner, is_reply_to, is_request_of, past_requests, AreAddressed, IsClientInOrder, IsTold, IsAnswered, IsAppInOrder}
 use Rattle.lw_target.proofs.Mails.{list_all_push}
@@ -131,8 +132,8 @@ module _ (s : Script) (c : Client) (app app' client client' owner taken owner' :
   owner_told t none =
       let same : sent_so_far s c client'.ran ≡ sent_so_far s c client.ran = ap (sent_so_far s c) to_client.ran in
       record {
-        to_itself = told_got 1 client client' more to_client ∙ ap (λ q. told client 1 ++ q) none ∙ append-nil (told client 1) ∙ t.to_itself ∙ sym (ap (sent_to 1) same);
-        to_owner = told_owner 1 ∙ t.to_owner ∙ sym (ap (sent_to 2) same);
+        to_itself = told_got 1 client client' more to_client ∙ ap (λ q. told client 1 ++ q) none ∙ append-nil (told client 1) ∙ t.to_itself ∙ sym (ap (to_thread 1) same);
+        to_owner = told_owner 1 ∙ t.to_owner ∙ sym (ap (to_thread 2) same);
       }
 
   pub owner_app : (a : App) (done : Bool) (devices : List Device) → IsAppInOrder a done app owner devices → IsAppInOrder a done app' owner' devices

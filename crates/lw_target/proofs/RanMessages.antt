@@ -1,6 +1,6 @@
 -- A client's log and state agree behind a message that it ran.
 use Rattle.std.proofs.Common.{ℕ, ◌≡◌, ◌+◌, ◌-◌, ◌≤◌, ◌<◌, Bool, true, false, ◌&&◌, List, [], ◌∷◌, ◌++◌, reverse, length, arith, refl, sym, ap, ap₂, ◌∙◌, subst, cond, get_or}
-use Rattle.std.specs.Prelude.{IfSome, map, not, ◌||◌, ◌==◌, filter, filter_map, count_by, Option, Some, None, option_map, option_to_list, is_some, is_none, slice_get, slice_set, vec_len}
+use Rattle.std.specs.Prelude.{IfSome, map, not, ◌==◌, filter, filter_map, count_by, Option, Some, None, option_map, option_to_list, is_some, is_none, slice_get, slice_set, vec_len}
 use Rattle.std.specs.List.{list_any, range_with_len}
 use Rattle.std.proofs.lemmas.Option.{slice_get-get_or, same_Some, none-some, slice_get_within}
 use Rattle.std.proofs.lemmas.Bool.{eqb-true, ne_eqb}
@@ -11,6 +11,7 @@ use Rattle.std.proofs.lemmas.List.Elements.{filter_map-append}
 use Rattle.lw_base.specs.declared.message.Tag.{Tag}
 use Rattle.lw_base.specs.declared.message.What.{What}
 use Rattle.lw_base.specs.declared.message.What.TheVariants as what
+use Rattle.lw_base.proofs.Bools.{or_false}
 use Rattle.lw_model.specs.declared.script.Script.{Script}
 use Rattle.lw_model.specs.declared.step.Step.{Step}
 use Rattle.lw_model.specs.declared.step.Step.TheVariants as step
@@ -103,10 +104,6 @@ ran_sends s old new ran m r h =
     ∙ ap (λ (q : List Step). sends_of_steps s old.thread q ++ cond old.done ((0, what.Done) ∷ []) []) grown
     ∙ ap (λ (q : List (ℕ × What)). q ++ cond old.done ((0, what.Done) ∷ []) [])
     (sends_push s old.thread (steps_so_far old ran) (step.Ran (length ran) m) ∙ append-nil (sends_of_steps s old.thread (steps_so_far old ran)))
-
-or_false : (b : Bool) → (b || false) ≡ b
-or_false true = refl
-or_false false = refl
 
 pub ran_refused : (s : Script) (old new : Client) (ran : List Tag) (m : Tag) → RanStep old new m → Follows s old ran → was_refused new (ran ++ m ∷ []) ≡ was_refused old ran
 ran_refused s old new ran m r h =

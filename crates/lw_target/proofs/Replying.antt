@@ -1,9 +1,9 @@
 -- What the answer of an op says of the channel, of the device and of what stands before it.
-use Rattle.std.proofs.Common.{ℕ, zero, suc, ◌≡◌, ◌<◌, Bool, true, false, List, [], ◌∷◌, reverse, length, arith, refl, sym, ap, ◌∙◌, subst, nat_lt, nat_le}
+use Rattle.std.proofs.Common.{ℕ, zero, suc, ◌≡◌, ◌<◌, Bool, true, false, List, reverse, length, arith, refl, sym, ap, ◌∙◌, subst, nat_lt, nat_le}
 use Rattle.std.specs.Prelude.{◌==◌, Option, Some, None, option_and_then, slice_get, if◌then◌else◌}
-use Rattle.std.specs.List.{list_any, list_all}
+use Rattle.std.specs.List.{list_any}
 use Rattle.std.proofs.lemmas.Option.{same_Some, none-some}
-use Rattle.std.proofs.lemmas.Bool.{eqb-true, eqb-false, eq-eqb, and_from, and_parts, lt-ltb, ltb-true, ltb-false, leb-false}
+use Rattle.std.proofs.lemmas.Bool.{eqb-true, eqb-false, eq-eqb, and_from, lt-ltb, ltb-true, ltb-false, leb-false}
 use Rattle.std.proofs.lemmas.List.{length-reverse}
 use Rattle.lw_model.specs.declared.script.Script.{Script}
 use Rattle.lw_model.specs.declared.script.Op.{Op}
@@ -25,11 +25,6 @@ use Rattle.lw_target.specs.Ops.{is_servable}
 use Rattle.lw_target.proofs.Kept.{IsApt}
 
 -- ---- the op, and the image that it is about
-
-pub list_all_found : {X : Type 0} (p : X → Bool) (xs : List X) (i : ℕ) (x : X) → list_all p xs ≡ true → slice_get xs i ≡ Some x → p x ≡ true
-list_all_found p [] i x all e = absurd (none-some x e)
-list_all_found p (y ∷ ys) zero x all e = ap p (sym (same_Some y x e)) ∙ (and_parts (p y) (list_all p ys) all).0
-list_all_found p (y ∷ ys) (suc i) x all e = list_all_found p ys i x ((and_parts (p y) (list_all p ys) all).1) e
 
 pub image_is : (n : ℕ) (o : Op) → is_servable n o ≡ true → image_of o ≡ Some (device_of (action_on o))
 image_is n (op.Get d) e = refl

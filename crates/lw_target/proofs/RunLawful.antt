@@ -7,7 +7,7 @@ use Rattle.lw_model.specs.declared.script.ImageOf.{ImageOf}
 use Rattle.lw_model.specs.declared.script.ClientOf.{ClientOf}
 use Rattle.lw_model.specs.declared.record.Record.{Record}
 use Rattle.lw_model.specs.ScriptRules.{rule_broken}
-use Rattle.lw_script.specs.Served.{is_served}
+use Rattle.lw_script_rules.specs.Served.{is_served}
 use Rattle.lw_model.specs.Threads.{ops_of}
 use Rattle.lw_model.specs.Lawful.{Lawful}
 use Rattle.lw_target.specs.declared.options.Options.{Options}

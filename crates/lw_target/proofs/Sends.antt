@@ -12,19 +12,20 @@ use Rattle.lw_model.specs.declared.script.Script.{Script}
 use Rattle.lw_model.specs.declared.script.Op.{Op}
 use Rattle.lw_model.specs.Threads.{is_client, ops_of}
 use Rattle.lw_model.specs.Holding.{is_putself}
+use Rattle.lw_model.specs.Sent.{to_thread}
+use Rattle.lw_model.proofs.SentLists.{to_thread-append}
 use Rattle.lw_target.specs.declared.mail.Load.{Load}
 use Rattle.lw_target.specs.declared.acts.Outgoing.{Outgoing}
 use Rattle.lw_target.specs.declared.client.Client.{Client}
 use Rattle.lw_target.specs.Ops.{IsOfOps, AllOfOps}
 use Rattle.lw_target.specs.ClientLog.{sent_so_far, sends_of_steps, steps_so_far}
 use Rattle.lw_target.specs.ClientCalls.{receivers, requested, reply_carried, putselfs_to}
-use Rattle.lw_target.specs.WholeRun.{sent_to}
 use Rattle.lw_target.specs.Letters.{Letter, said_by, post_of, posted}
 use Rattle.lw_target.specs.InOrder.{IsOfOne, IsToOwner, is_to_app, is_to_client, is_request_of}
 use Rattle.lw_target.proofs.Numbers.{count_cons, count_append, count_one}
 use Rattle.lw_target.proofs.Letters.{letter_from, posted_one, posted_append}
 use Rattle.lw_target.proofs.ClientRuns.{filter_map_one}
-use Rattle.lw_target.proofs.Told.{true_false, is_routed, steps_routed, all_step_routed, none_to_app, sent_append}
+use Rattle.lw_target.proofs.Told.{true_false, is_routed, steps_routed, all_step_routed, none_to_app}
 
 -- the one client is thread 1
 pub thread_is : (s : Script) (t : ℕ) → IsOfOne s → is_client s t ≡ true → t ≡ 1
@@ -43,13 +44,13 @@ so_far_routed s c ran one e =
     last false = refl
 
 -- what of it goes to the app is its last message
-pub so_far_to_app : (s : Script) (c : Client) (ran : List Tag) → IsOfOne s → c.thread ≡ 1 → sent_to 0 (sent_so_far s c ran) ≡ cond c.done (what.Done ∷ []) []
+pub so_far_to_app : (s : Script) (c : Client) (ran : List Tag) → IsOfOne s → c.thread ≡ 1 → to_thread 0 (sent_so_far s c ran) ≡ cond c.done (what.Done ∷ []) []
 so_far_to_app s c ran one e =
-    sent_append 0 (sends_of_steps s c.thread (steps_so_far c ran)) (cond c.done ((0, what.Done) ∷ []) [])
-    ∙ ap (λ q. q ++ sent_to 0 (cond c.done ((0, what.Done) ∷ []) [])) (none_to_app (sends_of_steps s c.thread (steps_so_far c ran)) (steps_routed s c.thread [] (steps_so_far c ran) one e))
+    to_thread-append 0 (sends_of_steps s c.thread (steps_so_far c ran)) (cond c.done ((0, what.Done) ∷ []) [])
+    ∙ ap (λ q. q ++ to_thread 0 (cond c.done ((0, what.Done) ∷ []) [])) (none_to_app (sends_of_steps s c.thread (steps_so_far c ran)) (steps_routed s c.thread [] (steps_so_far c ran) one e))
     ∙ last c.done
   where
-    last : (b : Bool) → sent_to 0 (cond b ((0, what.Done) ∷ []) []) ≡ cond b (what.Done ∷ []) []
+    last : (b : Bool) → to_thread 0 (cond b ((0, what.Done) ∷ []) []) ≡ cond b (what.Done ∷ []) []
     last true = refl
     last false = refl
 

@@ -1,8 +1,8 @@
 -- A run is in order before its first turn.
-use Rattle.std.proofs.Common.{ℕ, zero, suc, ◌≡◌, ◌≤◌, Bool, true, false, cond, List, [], ◌∷◌, ◌++◌, map, length, Option, Some, None, arith, refl, sym, ◌∙◌, ap, subst, inl}
+use Rattle.std.proofs.Common.{ℕ, ◌≡◌, ◌≤◌, true, false, cond, List, [], ◌∷◌, ◌++◌, map, length, Option, Some, None, arith, refl, sym, ◌∙◌, ap, subst, inl}
 use Rattle.std.specs.Prelude.{◌&&◌, ◌==◌, vec_len, slice_get, nat_lt, nat_le, count_by, option_map, option_and_then, unwrap_or}
 use Rattle.std.specs.List.{All, list_all}
-use Rattle.std.proofs.lemmas.Bool.{and_parts, ltb-true}
+use Rattle.std.proofs.lemmas.Bool.{ltb-true}
 use Rattle.std.proofs.lemmas.List.Elements.{All-nil, All-cons}
 use Rattle.lw_model.specs.declared.script.Script.{Script}
 use Rattle.lw_model.specs.declared.script.ImageOf.{ImageOf}
@@ -22,11 +22,12 @@ use Rattle.lw_target.specs.Messages.{Inbox}
 use Rattle.lw_target.specs.Ops.{is_servable}
 use Rattle.lw_target.specs.ClientLog.{IsOf, Follows, sent_so_far, was_refused}
 use Rattle.lw_target.specs.ClientCalls.{AllAgree}
-use Rattle.lw_target.specs.WholeRun.{sent_to, reply_pairs}
+use Rattle.lw_target.specs.WholeRun.{reply_pairs}
 use Rattle.lw_target.specs.Turns.{unused}
 use Rattle.lw_target.specs.InOrder.{IsOfOne, IsToOwner}
 use Rattle.lw_target.proofs.OwnerRuns.{AreInOrder}
 use Rattle.lw_model.proofs.Passing.{item_passes}
+use Rattle.lw_model.specs.Sent.{to_thread}
 
 -- an op that is served on one image is on image 0
 on_first : (o : Op) (d : ℕ) → is_servable 1 o ≡ true → image_of o ≡ Some d → d ≡ 0
@@ -85,7 +86,7 @@ starts s c a image devices is follows sends refused agree pending done replies n
     refused = refused;
     pending = at (slice_get c.channels.items 0) refl;
   };
-  sent = record { to_itself = sym (ap (sent_to 1) sends); to_owner = sym (ap (sent_to 2) sends) };
+  sent = record { to_itself = sym (ap (to_thread 1) sends); to_owner = sym (ap (to_thread 2) sends) };
   answered = record {
     replies = refl;
     answers = ap (λ q. reply_pairs (q ++ [])) replies;

@@ -3,7 +3,7 @@ use Rattle.std.proofs.Common.{ℕ, ◌≡◌, ◌+◌, ◌≤◌, ◌<◌, Bool,
 use Rattle.std.specs.Prelude.{◌&&◌, ◌||◌, filter_map, count_by, Option, Some, None, is_some, is_none, slice_get, vec_len, nat_lt, nat_le, if◌then◌else◌, ◌==◌, IfSome}
 use Rattle.std.specs.List.{list_any, list_all}
 use Rattle.std.proofs.lemmas.Option.{none-some, slice_get-get_or}
-use Rattle.std.proofs.lemmas.Bool.{leb-true}
+use Rattle.std.proofs.lemmas.Bool.{leb-true, or_parts}
 use Rattle.std.proofs.lemmas.List.{append-nil, map-append}
 use Rattle.std.proofs.lemmas.List.Elements.{filter_map-append}
 use Rattle.std.proofs.lemmas.List.Sums.{sum_by-append}
@@ -301,18 +301,13 @@ waits_known old devices act within same deep e =
     (at_some (slice_get old.channels.items d) (λ k. None ≡ answer_to old.of.ops old.unanswered.items old.of.depth act (get_or devices d v0) k) (get_or old.channels.items d k0) kept
     (at_some (slice_get devices d) (λ v. IfSome (slice_get old.channels.items d) (λ k. None ≡ answer_to old.of.ops old.unanswered.items old.of.depth act v k)) (get_or devices d v0) seen e))
 
-no_either : (p q : Bool) → (p || q) ≡ false → (p ≡ false) × (q ≡ false)
-no_either false false e = (refl, refl)
-no_either false true e = let wrong : true ≡ false = e in cc
-no_either true q e = let wrong : true ≡ false = e in cc
-
 -- a tick of which no part did anything
 pub rests_all : (a b c d : Client) (w x y z : Asked) (ds es : List Device) (p q r : Bool)
     → (p ≡ false → Paused a b w x ds es) → (q ≡ false → (c ≡ b) × (y ≡ x) × (b.next ≡ length b.of.ops → b.closed ≡ false → 0 < length b.unanswered.items))
     → (r ≡ false → (d ≡ c) × (z ≡ y) × (c.done ≡ false → c.closed ≡ true → 0 < c.standing)) → ((p || q) || r) ≡ false → Rests a d w z ds es
 rests_all a b c d w x y z ds es p q r f g h e =
-    let outer = no_either (p || q) r e in
-    let inner = no_either p q outer.0 in
+    let outer = or_parts (p || q) r e in
+    let inner = or_parts p q outer.0 in
     let one = f inner.0 in
     let two = g inner.1 in
     let three = h outer.1 in

@@ -17,13 +17,13 @@ use Rattle.lw_model.specs.declared.record.Answer.{Answer}
 use Rattle.lw_model.specs.declared.record.Answer.TheVariants as answer
 use Rattle.lw_model.specs.Threads.{owner_of, image_at}
 use Rattle.lw_model.specs.OwnOrder.{with_past}
-use Rattle.lw_model.specs.Sent.{referred}
+use Rattle.lw_model.specs.Sent.{referred, to_thread}
 use Rattle.lw_target.specs.declared.mail.Mail.{Mail}
 use Rattle.lw_target.specs.declared.acts.Outgoing.{Outgoing}
 use Rattle.lw_target.specs.Messages.{Inbox}
 use Rattle.lw_target.specs.ClientLog.{sends_of}
 use Rattle.lw_target.specs.ClientCalls.{receivers}
-use Rattle.lw_target.specs.WholeRun.{run_from, sent_to}
+use Rattle.lw_target.specs.WholeRun.{run_from}
 use Rattle.lw_target.specs.Letters.{Letter, letters, said_by, told, post_of, posted, Got}
 use Rattle.lw_target.specs.InOrder.{IsOfOne}
 use Rattle.lw_target.proofs.Letters.{letter_of, letter_from}
@@ -138,27 +138,22 @@ all_step_routed (p ∷ ps) e =
     and_from (is_routed p) (list_all is_routed ps) (step_routed p both.0) (all_step_routed ps both.1)
 
 -- no step sends anything to the app
-pub none_to_app : (ps : List (ℕ × What)) → list_all is_step_routed ps ≡ true → sent_to 0 ps ≡ []
+pub none_to_app : (ps : List (ℕ × What)) → list_all is_step_routed ps ≡ true → to_thread 0 ps ≡ []
 none_to_app [] e = refl
 none_to_app (p ∷ ps) e =
     let both = and_parts (is_step_routed p) (list_all is_step_routed ps) e in
     ap (λ b. map (λ (q : ℕ × What). q.1) (cond b (p ∷ filter (λ (q : ℕ × What). q.0 == 0) ps) (filter (λ (q : ℕ × What). q.0 == 0) ps))) (step_away p.0 p.1 both.0) ∙ none_to_app ps both.1
 
-pub sent_append : (t : ℕ) (xs ys : List (ℕ × What)) → sent_to t (xs ++ ys) ≡ sent_to t xs ++ sent_to t ys
-sent_append t xs ys =
-    ap (map (λ (p : ℕ × What). p.1)) (filter-append (λ (p : ℕ × What). p.0 == t) xs ys)
-    ∙ map-append (λ (p : ℕ × What). p.1) (filter (λ (p : ℕ × What). p.0 == t) xs) (filter (λ (p : ℕ × What). p.0 == t) ys)
-
 -- what is posted of a sender's sends is what it sent to that thread
 pub said_of_own : (thread sender : ℕ) (sends : List Outgoing) → list_all is_routed (receivers sends) ≡ true
-    → said_by sender (posted thread sender sends) ≡ sent_to thread (receivers sends)
+    → said_by sender (posted thread sender sends) ≡ to_thread thread (receivers sends)
 said_of_own thread sender [] e = refl
 said_of_own thread sender (o ∷ sends) e =
     let both = and_parts (is_routed (o.to, o.what)) (list_all is_routed (receivers sends)) e in
     ap (λ k. said_by sender (map (letter_from sender) (cond (k == thread) (o ∷ filter (λ (x : Outgoing). post_of x.to == thread) sends) (filter (λ (x : Outgoing). post_of x.to == thread) sends)))) (routed_post o.to o.what both.0)
     ∙ at (o.to == thread) (said_of_own thread sender sends both.1)
   where
-    at : (b : Bool) → said_by sender (posted thread sender sends) ≡ sent_to thread (receivers sends)
+    at : (b : Bool) → said_by sender (posted thread sender sends) ≡ to_thread thread (receivers sends)
         → said_by sender (map (letter_from sender) (cond b (o ∷ filter (λ (x : Outgoing). post_of x.to == thread) sends) (filter (λ (x : Outgoing). post_of x.to == thread) sends)))
         ≡ map (λ (p : ℕ × What). p.1) (cond b ((o.to, o.what) ∷ filter (λ (p : ℕ × What). p.0 == thread) (receivers sends)) (filter (λ (p : ℕ × What). p.0 == thread) (receivers sends)))
     at true same = ap (λ b. map (λ (l : Letter). l.what) (cond b (letter_from sender o ∷ filter (λ (l : Letter). l.sender == sender) (posted thread sender sends)) (filter (λ (l : Letter). l.sender == sender) (posted thread sender sends)))) (eq-eqb sender sender refl) ∙ ap (λ q. o.what ∷ q) same

@@ -20,6 +20,8 @@ use Rattle.lw_model.specs.Threads.{ops_of, is_on}
 use Rattle.lw_model.specs.Moves.{number_fits}
 use Rattle.lw_model.specs.Holding.{says, always, is_closed, gains, loses, references, is_putself, ordinal_given}
 use Rattle.lw_model.specs.declared.step.Step.{Step}
+use Rattle.lw_model.specs.Sent.{to_thread}
+use Rattle.lw_model.proofs.SentLists.{to_thread-append}
 use Rattle.lw_target.specs.declared.channel.Channel.{Channel}
 use Rattle.lw_target.specs.declared.device.Device.{Device}
 use Rattle.lw_target.specs.declared.turns.Target.{Target}
@@ -28,9 +30,9 @@ use Rattle.lw_target.specs.ClientLog.{IsHeldUp, lines_fit, sends_of_steps, sent_
 use Rattle.lw_target.specs.ClientCalls.{AllAgree, pending_of, reply_carried}
 use Rattle.lw_target.specs.Letters.{Letter, letters, told, said_by}
 use Rattle.lw_target.specs.InOrder.{IsFresh, IsOver, IsInOrder, IsAtRest, is_reply_to, is_request_of}
-use Rattle.lw_target.specs.WholeRun.{run_from, sent_to, are_numbered, reply_pairs, AppEnded, OwnerEnded, ClientEnded, IsWholeRun}
+use Rattle.lw_target.specs.WholeRun.{run_from, are_numbered, reply_pairs, AppEnded, OwnerEnded, ClientEnded, IsWholeRun}
 use Rattle.lw_target.proofs.Numbers.{count_cons}
-use Rattle.lw_target.proofs.Told.{true_false, sent_append}
+use Rattle.lw_target.proofs.Told.{true_false}
 use Rattle.lw_target.proofs.Sends.{thread_is}
 
 -- ---- all have ended
@@ -148,13 +150,13 @@ module _ (s : Script) (t : Target) (h : IsInOrder s t) (r : IsAtRest t) (deep : 
   all_run : (n : ℕ) (i : Inbox) → letters i ≡ [] → told i n ≡ run_from n i.ran
   all_run n i e = ap (λ q. run_from n i.ran ++ said_by n q) e ∙ append-nil (run_from n i.ran)
 
-  sent_by_steps : (n : ℕ) → (0 == n) ≡ false → sent_to n (sent_so_far s t.client t.posts.client.ran) ≡ sent_to n (sends_of_steps s 1 (steps_so_far t.client t.posts.client.ran))
+  sent_by_steps : (n : ℕ) → (0 == n) ≡ false → to_thread n (sent_so_far s t.client t.posts.client.ran) ≡ to_thread n (sends_of_steps s 1 (steps_so_far t.client t.posts.client.ran))
   sent_by_steps n away =
-      ap (λ b. sent_to n (sends_of_steps s t.client.thread (steps_so_far t.client t.posts.client.ran) ++ cond b ((0, what.Done) ∷ []) [])) done
-      ∙ sent_append n (sends_of_steps s t.client.thread (steps_so_far t.client t.posts.client.ran)) ((0, what.Done) ∷ [])
-      ∙ ap (λ b. sent_to n (sends_of_steps s t.client.thread (steps_so_far t.client t.posts.client.ran)) ++ map (λ (p : ℕ × What). p.1) (cond b ((0, what.Done) ∷ []) [])) away
-      ∙ append-nil (sent_to n (sends_of_steps s t.client.thread (steps_so_far t.client t.posts.client.ran)))
-      ∙ ap (λ k. sent_to n (sends_of_steps s k (steps_so_far t.client t.posts.client.ran))) thread
+      ap (λ b. to_thread n (sends_of_steps s t.client.thread (steps_so_far t.client t.posts.client.ran) ++ cond b ((0, what.Done) ∷ []) [])) done
+      ∙ to_thread-append n (sends_of_steps s t.client.thread (steps_so_far t.client t.posts.client.ran)) ((0, what.Done) ∷ [])
+      ∙ ap (λ b. to_thread n (sends_of_steps s t.client.thread (steps_so_far t.client t.posts.client.ran)) ++ map (λ (p : ℕ × What). p.1) (cond b ((0, what.Done) ∷ []) [])) away
+      ∙ append-nil (to_thread n (sends_of_steps s t.client.thread (steps_so_far t.client t.posts.client.ran)))
+      ∙ ap (λ k. to_thread n (sends_of_steps s k (steps_so_far t.client t.posts.client.ran))) thread
 
   app_ended : AppEnded (app_log t) end
   app_ended = record {

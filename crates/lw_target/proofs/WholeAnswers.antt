@@ -10,6 +10,7 @@ use Rattle.lw_model.specs.declared.script.Op.TheVariants as op
 use Rattle.lw_model.specs.declared.record.Record.{Record}
 use Rattle.lw_model.specs.declared.record.ThreadRecord.{ThreadRecord}
 use Rattle.lw_base.specs.declared.ends.DeviceEnd.{DeviceEnd}
+use Rattle.lw_base.proofs.Lists.{all_first}
 use Rattle.lw_model.specs.declared.record.Did.{Did}
 use Rattle.lw_model.specs.declared.record.Called.{Called}
 use Rattle.lw_model.specs.declared.record.Answer.{Answer}
@@ -23,7 +24,7 @@ use Rattle.lw_model.specs.Answers.{Answers, answer_fits, get_fits, put_fits, req
 use Rattle.lw_target.specs.Ops.{is_servable}
 use Rattle.lw_target.specs.ClientLog.{line_fits}
 use Rattle.lw_target.specs.WholeRun.{AppEnded, ClientEnded, OwnerEnded}
-use Rattle.lw_target.proofs.WholeParts.{IsMadeOf, each, client_is, owner_is_none, of_app, of_client, of_owner, app_steps, app_order, ran_steps, owner_order, of_in_order, all_first, of_dids}
+use Rattle.lw_target.proofs.WholeParts.{IsMadeOf, each, client_is, owner_is_none, of_app, of_client, of_owner, app_steps, app_order, ran_steps, owner_order, of_in_order, of_dids}
 
 -- ---- The answers that a client of these ops lists
 

@@ -1,7 +1,7 @@
 -- The threads of a whole run, and the steps of each in own order.
 use Rattle.std.proofs.Common.{ℕ, zero, suc, ◌≡◌, ◌+◌, ◌≤◌, nat_lt, nat_le, Bool, true, false, cond, ◌&&◌, List, [], ◌∷◌, ◌++◌, map, length, None, slice_get, unwrap_or, option_map, refl, sym, ap, ◌∙◌, arith}
 use Rattle.std.specs.List.{AllByRecursion, list_all, enumerate_from}
-use Rattle.std.proofs.lemmas.Bool.{and_parts, leb-true, le-leb, true≢false}
+use Rattle.std.proofs.lemmas.Bool.{and_parts, leb-true, true≢false}
 use Rattle.lw_base.specs.declared.message.Tag.{Tag}
 use Rattle.lw_base.specs.declared.message.What.TheVariants as what
 use Rattle.lw_model.specs.declared.script.Script.{Script}
@@ -108,10 +108,6 @@ of_put_in P s (x ∷ xs) h = at (nat_le (at_of s) (at_of x)) (of_put_in P s xs) 
 pub of_in_order : (P : Step → Type 0) (ss : List Step) → AllByRecursion P (in_order ss) → AllByRecursion P ss
 of_in_order P [] h = tt
 of_in_order P (s ∷ ss) h = let both = of_put_in P s (in_order ss) h in (both.0, of_in_order P ss both.1)
-
-pub all_first : {X : Type 0} (P : X → Type 0) (xs ys : List X) → AllByRecursion P (xs ++ ys) → AllByRecursion P xs
-all_first P [] ys h = tt
-all_first P (x ∷ xs) ys h = (h.0, all_first P xs ys h.1)
 
 pub of_dids : (P : Did → Type 0) (n : ℕ) (xs : List Did) → AllByRecursion (λ (s : Step). elim s [ step.Did i x ↦ P x | _ ↦ Unit {0} ]) (map (λ p. step.Did p.0 p.1) (enumerate_from n xs)) → AllByRecursion P xs
 of_dids P n [] h = tt

@@ -17,15 +17,16 @@ use Rattle.lw_model.specs.declared.step.Step.{Step}
 use Rattle.lw_model.specs.declared.step.Step.TheVariants as step
 use Rattle.lw_model.specs.Threads.{is_client, is_owner, owner_of, images, ran_of}
 use Rattle.lw_model.specs.OwnOrder.{own_order, with_past, history, steps_of}
-use Rattle.lw_model.specs.Sent.{sent, sent_by, sent_by_did, sent_by_ran, all_sent, run_of, tokens, tokens_started_by, must_run, is_same_token}
+use Rattle.lw_model.specs.Sent.{sent, sent_by, sent_by_did, sent_by_ran, all_sent, run_of, tokens, tokens_started_by, must_run, is_same_token, to_thread}
 use Rattle.lw_model.specs.Journal.{request_of}
 use Rattle.lw_model.specs.Lawful.{RanIsSent, has_run, is_first_run}
 use Rattle.lw_model.proofs.Growth.{all-in_order, all-append}
+use Rattle.lw_model.proofs.SentLists.{to_thread-append}
 use Rattle.lw_target.specs.ClientLog.{sends_of, sends_of_steps}
-use Rattle.lw_target.specs.WholeRun.{AppEnded, ClientEnded, OwnerEnded, run_from, sent_to, requests_of}
+use Rattle.lw_target.specs.WholeRun.{AppEnded, ClientEnded, OwnerEnded, run_from, requests_of}
 use Rattle.lw_target.proofs.WholeParts.{IsMadeOf, each, client_is, owner_is_none, not_client, of_app, of_client, of_owner, of_none, app_order, ran_steps, owner_order}
 use Rattle.lw_target.proofs.WholeAnswers.{is_plain, PlainStep, client_plain}
-use Rattle.lw_target.proofs.WholeSent.{is_back, is_asked, is_send, all_send, sent_to-append, none_to, back_send, request_send, kind_to, of_senders, none_from}
+use Rattle.lw_target.proofs.WholeSent.{is_back, is_asked, is_send, all_send, none_to, back_send, request_send, kind_to, of_senders, none_from}
 
 -- ---- What the client's steps send
 
@@ -96,18 +97,18 @@ owner_steps : (r : Record) → is_owner r.script 2 ≡ true → (past : List Ste
 owner_steps r owner past n [] all = refl
 owner_steps r owner past n (m ∷ ran) all = ap₂ (λ a b. a ++ b) (owner_step r m.sender m.number m.what owner all.0) (owner_steps r owner (step.Ran n m ∷ past) (n + 1) ran all.1)
 
-reply_sent : (t sender number : ℕ) (w : What) → is_asked sender w ≡ true → t ≡ 1 → sent_to t (reply_to (record { sender = sender; number = number; what = w })) ≡ map (λ (e : ℕ × ℕ). what.Reply e.1) (cons_option (request_of (record { sender = sender; number = number; what = w })) [])
+reply_sent : (t sender number : ℕ) (w : What) → is_asked sender w ≡ true → t ≡ 1 → to_thread t (reply_to (record { sender = sender; number = number; what = w })) ≡ map (λ (e : ℕ × ℕ). what.Reply e.1) (cons_option (request_of (record { sender = sender; number = number; what = w })) [])
 reply_sent t sender number (what.Request k) e f = ap (λ b. map (λ (p : ℕ × What). p.1) (cond b ((sender, what.Reply k) ∷ []) [])) (eq-eqb sender t (omega (arith, f, eqb-true sender 1 e)))
 reply_sent t sender number _ e f = refl
 
-reply_other : (t sender number : ℕ) (w : What) → is_asked sender w ≡ true → t ≢ 1 → sent_to t (reply_to (record { sender = sender; number = number; what = w })) ≡ []
+reply_other : (t sender number : ℕ) (w : What) → is_asked sender w ≡ true → t ≢ 1 → to_thread t (reply_to (record { sender = sender; number = number; what = w })) ≡ []
 reply_other t sender number (what.Request k) e f = ap (λ b. map (λ (p : ℕ × What). p.1) (cond b ((sender, what.Reply k) ∷ []) [])) (ne_eqb sender t (λ h. f (omega (arith, h, eqb-true sender 1 e))))
 reply_other t sender number _ e f = refl
 
-replies_sent : (ran : List Tag) → AllByRecursion AskedTag ran → sent_to 1 (flat_map reply_to ran) ≡ map (λ k. what.Reply k) (requests_of ran)
+replies_sent : (ran : List Tag) → AllByRecursion AskedTag ran → to_thread 1 (flat_map reply_to ran) ≡ map (λ k. what.Reply k) (requests_of ran)
 replies_sent [] all = refl
 replies_sent (m ∷ ran) all =
-    sent_to-append 1 (reply_to m) (flat_map reply_to ran)
+    to_thread-append 1 (reply_to m) (flat_map reply_to ran)
     ∙ ap₂ (λ a b. a ++ b) (reply_sent 1 m.sender m.number m.what all.0 refl) (replies_sent ran all.1)
     ∙ joined (request_of m)
   where
@@ -115,10 +116,10 @@ replies_sent (m ∷ ran) all =
     joined None = refl
     joined (Some e) = refl
 
-replies_other : (t : ℕ) → t ≢ 1 → (ran : List Tag) → AllByRecursion AskedTag ran → sent_to t (flat_map reply_to ran) ≡ []
+replies_other : (t : ℕ) → t ≢ 1 → (ran : List Tag) → AllByRecursion AskedTag ran → to_thread t (flat_map reply_to ran) ≡ []
 replies_other t ne [] all = refl
 replies_other t ne (m ∷ ran) all =
-    sent_to-append t (reply_to m) (flat_map reply_to ran)
+    to_thread-append t (reply_to m) (flat_map reply_to ran)
     ∙ ap₂ (λ a b. a ++ b) (reply_other t m.sender m.number m.what all.0 ne) (replies_other t ne ran all.1)
 
 -- ---- Tokens
@@ -239,24 +240,24 @@ module _ (r : Record) (app client owner : ThreadRecord) (end : DeviceEnd) (made 
   IsRun t x = (n : ℕ) → run_from n x.ran ≡ sent r n t
 
   app_run : IsRun 0 app
-  app_run zero = ap (run_from 0) app_ended.ran ∙ sym (ap (sent_to 0) app_sends)
-  app_run (suc zero) = ap (run_from 1) app_ended.ran ∙ sym (ap (sent_to 0) client_sends ∙ sent_to-append 0 sends ((0, what.Done) ∷ []) ∙ ap (λ l. l ++ what.Done ∷ []) (none_to 0 (λ h. absurd (omega (arith, h))) (λ h. absurd (omega (arith, h))) sends sends_fit))
-  app_run (suc (suc zero)) = ap (run_from 2) app_ended.ran ∙ sym (ap (sent_to 0) owner_sends ∙ replies_other 0 (λ h. absurd (omega (arith, h))) owner.ran owner_asked)
+  app_run zero = ap (run_from 0) app_ended.ran ∙ sym (ap (to_thread 0) app_sends)
+  app_run (suc zero) = ap (run_from 1) app_ended.ran ∙ sym (ap (to_thread 0) client_sends ∙ to_thread-append 0 sends ((0, what.Done) ∷ []) ∙ ap (λ l. l ++ what.Done ∷ []) (none_to 0 (λ h. absurd (omega (arith, h))) (λ h. absurd (omega (arith, h))) sends sends_fit))
+  app_run (suc (suc zero)) = ap (run_from 2) app_ended.ran ∙ sym (ap (to_thread 0) owner_sends ∙ replies_other 0 (λ h. absurd (omega (arith, h))) owner.ran owner_asked)
   app_run (suc (suc (suc n))) = ap (run_from (suc (suc (suc n)))) app_ended.ran
       ∙ ap (λ b. map (λ (m : Tag). m.what) (cond b (record { sender = 1; number = 0; what = what.Done } ∷ []) [])) (ne_eqb 1 (suc (suc (suc n))) (λ h. absurd (omega (arith, h))))
-      ∙ sym (ap (sent_to 0) (others_send n))
+      ∙ sym (ap (to_thread 0) (others_send n))
 
   client_run : IsRun 1 client
-  client_run zero = none_from 0 1 2 (λ h. absurd (omega (arith, h))) (λ h. absurd (omega (arith, h))) client.ran client_ended.senders ∙ sym (ap (sent_to 1) app_sends)
-  client_run (suc zero) = client_ended.of_itself ∙ sym (ap (sent_to 1) client_sends ∙ sent_to-append 1 sends ((0, what.Done) ∷ []) ∙ append-nil (sent_to 1 sends))
-  client_run (suc (suc zero)) = client_ended.of_owner ∙ sym (ap (sent_to 1) owner_sends ∙ replies_sent owner.ran owner_asked)
-  client_run (suc (suc (suc n))) = none_from (suc (suc (suc n))) 1 2 (λ h. absurd (omega (arith, h))) (λ h. absurd (omega (arith, h))) client.ran client_ended.senders ∙ sym (ap (sent_to 1) (others_send n))
+  client_run zero = none_from 0 1 2 (λ h. absurd (omega (arith, h))) (λ h. absurd (omega (arith, h))) client.ran client_ended.senders ∙ sym (ap (to_thread 1) app_sends)
+  client_run (suc zero) = client_ended.of_itself ∙ sym (ap (to_thread 1) client_sends ∙ to_thread-append 1 sends ((0, what.Done) ∷ []) ∙ append-nil (to_thread 1 sends))
+  client_run (suc (suc zero)) = client_ended.of_owner ∙ sym (ap (to_thread 1) owner_sends ∙ replies_sent owner.ran owner_asked)
+  client_run (suc (suc (suc n))) = none_from (suc (suc (suc n))) 1 2 (λ h. absurd (omega (arith, h))) (λ h. absurd (omega (arith, h))) client.ran client_ended.senders ∙ sym (ap (to_thread 1) (others_send n))
 
   owner_run : IsRun 2 owner
-  owner_run zero = owner_ended.of_app ∙ sym (ap (sent_to 2) app_sends)
-  owner_run (suc zero) = owner_ended.of_client ∙ sym (ap (sent_to 2) client_sends ∙ sent_to-append 2 sends ((0, what.Done) ∷ []) ∙ append-nil (sent_to 2 sends))
-  owner_run (suc (suc zero)) = none_from 2 0 1 (λ h. absurd (omega (arith, h))) (λ h. absurd (omega (arith, h))) owner.ran owner_ended.senders ∙ sym (ap (sent_to 2) owner_sends ∙ replies_other 2 (λ h. absurd (omega (arith, h))) owner.ran owner_asked)
-  owner_run (suc (suc (suc n))) = none_from (suc (suc (suc n))) 0 1 (λ h. absurd (omega (arith, h))) (λ h. absurd (omega (arith, h))) owner.ran owner_ended.senders ∙ sym (ap (sent_to 2) (others_send n))
+  owner_run zero = owner_ended.of_app ∙ sym (ap (to_thread 2) app_sends)
+  owner_run (suc zero) = owner_ended.of_client ∙ sym (ap (to_thread 2) client_sends ∙ to_thread-append 2 sends ((0, what.Done) ∷ []) ∙ append-nil (to_thread 2 sends))
+  owner_run (suc (suc zero)) = none_from 2 0 1 (λ h. absurd (omega (arith, h))) (λ h. absurd (omega (arith, h))) owner.ran owner_ended.senders ∙ sym (ap (to_thread 2) owner_sends ∙ replies_other 2 (λ h. absurd (omega (arith, h))) owner.ran owner_asked)
+  owner_run (suc (suc (suc n))) = none_from (suc (suc (suc n))) 0 1 (λ h. absurd (omega (arith, h))) (λ h. absurd (omega (arith, h))) owner.ran owner_ended.senders ∙ sym (ap (to_thread 2) (others_send n))
 
   run_is : (t : ℕ) (x : ThreadRecord) → ran_of r t ≡ x.ran → IsRun t x → (n : ℕ) → run_of r n t ≡ sent r n t
   run_is t x e all n = ap (run_from n) e ∙ all n

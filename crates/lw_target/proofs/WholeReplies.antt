@@ -11,6 +11,7 @@ use Rattle.lw_model.specs.declared.script.Script.{Script}
 use Rattle.lw_model.specs.declared.record.Record.{Record}
 use Rattle.lw_model.specs.declared.record.ThreadRecord.{ThreadRecord}
 use Rattle.lw_base.specs.declared.ends.DeviceEnd.{DeviceEnd}
+use Rattle.lw_base.proofs.Lists.{all_first}
 use Rattle.lw_model.specs.declared.record.Did.{Did}
 use Rattle.lw_model.specs.declared.record.Called.{Called}
 use Rattle.lw_model.specs.declared.record.Reply.{Reply}
@@ -30,7 +31,7 @@ use Rattle.lw_model.proofs.Growth.{all-in_order}
 use Rattle.lw_model.proofs.JournalParts.{journal_part}
 use Rattle.lw_target.specs.ClientLog.{line_fits}
 use Rattle.lw_target.specs.WholeRun.{ClientEnded, requests_of, answers_of, reply_pairs}
-use Rattle.lw_target.proofs.WholeParts.{IsMadeOf, each_client, client_is, of_client, of_owner, ran_steps, of_in_order, all_first}
+use Rattle.lw_target.proofs.WholeParts.{IsMadeOf, each_client, client_is, of_client, of_owner, ran_steps, of_in_order}
 use Rattle.lw_target.proofs.WholeSent.{is_asked}
 use Rattle.lw_target.proofs.WholeRan.{AskedTag, owner_asked, ran_is_sent}
 

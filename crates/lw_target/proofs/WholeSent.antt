@@ -1,10 +1,8 @@
 -- In a whole run each thread ran what the others sent it, all of it and nothing else.
-use Rattle.std.proofs.Common.{ℕ, ◌≡◌, ◌≢◌, ◌==◌, Bool, true, false, cond, ◌||◌, List, [], ◌∷◌, ◌++◌, map, filter, length, Option, Some, None, option_to_list, option_map, refl, sym, ap, subst, ◌∙◌, arith}
+use Rattle.std.proofs.Common.{ℕ, ◌≡◌, ◌≢◌, ◌==◌, Bool, true, false, cond, ◌||◌, List, [], ◌∷◌, map, filter, length, Option, Some, None, option_to_list, option_map, refl, sym, ap, subst, ◌∙◌, arith}
 use Rattle.std.specs.Prelude.{option_and_then}
 use Rattle.std.specs.List.{AllByRecursion, list_all, flat_map}
 use Rattle.std.proofs.lemmas.Bool.{and_parts, and_from, ne_eqb, eqb-true, ltb-true, false≢true}
-use Rattle.std.proofs.lemmas.List.{map-append}
-use Rattle.std.proofs.lemmas.List.Elements.{filter-append}
 use Rattle.std.proofs.lemmas.List.Folds.{list_all-append}
 use Rattle.lw_base.specs.declared.message.Tag.{Tag}
 use Rattle.lw_base.specs.declared.message.What.{What}
@@ -19,10 +17,10 @@ use Rattle.lw_model.specs.declared.step.Step.TheVariants as step
 use Rattle.lw_model.specs.ScriptRules.{image_of}
 use Rattle.lw_model.specs.Threads.{owner_of, ops_of, op_at, image_at}
 use Rattle.lw_model.specs.OwnOrder.{with_past}
-use Rattle.lw_model.specs.Sent.{referred}
+use Rattle.lw_model.specs.Sent.{referred, to_thread}
 use Rattle.lw_target.specs.Ops.{is_servable}
 use Rattle.lw_target.specs.ClientLog.{sends_of}
-use Rattle.lw_target.specs.WholeRun.{run_from, sent_to}
+use Rattle.lw_target.specs.WholeRun.{run_from}
 use Rattle.lw_target.proofs.WholeAnswers.{MayServe, may_serve}
 
 -- ---- What kinds of messages there are
@@ -90,10 +88,6 @@ module _ (s : Script) (one : length s.clients ≡ 1) (ops : list_all (is_servabl
 
 -- ---- Receivers
 
-pub sent_to-append : (t : ℕ) (ps qs : List (ℕ × What)) → sent_to t (ps ++ qs) ≡ sent_to t ps ++ sent_to t qs
-sent_to-append t ps qs = ap (map (λ (p : ℕ × What). p.1)) (filter-append (λ (p : ℕ × What). p.0 == t) ps qs)
-    ∙ map-append (λ (p : ℕ × What). p.1) (filter (λ p. p.0 == t) ps) (filter (λ p. p.0 == t) qs)
-
 send_is : (u : ℕ) (w : What) → is_send (u, w) ≡ true → (t : ℕ) → t ≢ 1 → t ≢ 2 → (u == t) ≡ false
 send_is u (what.Request k) e t one two = ne_eqb u t (λ h. two (omega (arith, h, eqb-true u 2 e)))
 send_is u (what.PutSelf d) e t one two = ne_eqb u t (λ h. one (omega (arith, h, eqb-true u 1 e)))
@@ -108,7 +102,7 @@ send_is u (what.Arrive a b) e t one two = absurd (false≢true e)
 send_is u (what.Order a b c) e t one two = absurd (false≢true e)
 
 -- the client sends to itself and to the owner alone
-pub none_to : (t : ℕ) → t ≢ 1 → t ≢ 2 → (ps : List (ℕ × What)) → list_all is_send ps ≡ true → sent_to t ps ≡ []
+pub none_to : (t : ℕ) → t ≢ 1 → t ≢ 2 → (ps : List (ℕ × What)) → list_all is_send ps ≡ true → to_thread t ps ≡ []
 none_to t one two [] e = refl
 none_to t one two (p ∷ ps) e =
     let both = and_parts (is_send p) (list_all is_send ps) e in
@@ -143,13 +137,13 @@ request_send u (what.Order a b c) e f = absurd (false≢true e)
 
 -- what goes to one receiver is of one kind
 pub kind_to : (t : ℕ) (q : What → Bool) → ((u : ℕ) (w : What) → is_send (u, w) ≡ true → (u == t) ≡ true → q w ≡ true)
-    → (ps : List (ℕ × What)) → list_all is_send ps ≡ true → list_all q (sent_to t ps) ≡ true
+    → (ps : List (ℕ × What)) → list_all is_send ps ≡ true → list_all q (to_thread t ps) ≡ true
 kind_to t q means [] e = refl
 kind_to t q means (p ∷ ps) e =
     let both = and_parts (is_send p) (list_all is_send ps) e in
     at (p.0 == t) refl both.0 (kind_to t q means ps both.1)
   where
-    at : (b : Bool) → (p.0 == t) ≡ b → is_send p ≡ true → list_all q (sent_to t ps) ≡ true
+    at : (b : Bool) → (p.0 == t) ≡ b → is_send p ≡ true → list_all q (to_thread t ps) ≡ true
         → list_all q (map (λ (r : ℕ × What). r.1) (cond b (p ∷ filter (λ r. r.0 == t) ps) (filter (λ r. r.0 == t) ps))) ≡ true
     at true is fits rest = and_from (q p.1) _ (means p.0 p.1 fits is) rest
     at false is fits rest = rest

@@ -18,7 +18,7 @@ use Rattle.lw_model.specs.Holding.{is_started, says, always, is_closed, gains, l
 use Rattle.lw_model.specs.Answers.{unanswered, unanswered_on, answer_fits, depth_fits}
 use Rattle.lw_model.specs.Devices.{is_refusal}
 use Rattle.lw_model.specs.Sent.{referred}
-use Rattle.lw_whole.specs.Lines as whole
+use Rattle.lw_model.specs.Answers as answers
 use Rattle.lw_target.specs.declared.client.Client.{Client}
 use Rattle.lw_target.specs.declared.channel.Channel.{Channel}
 
@@ -64,7 +64,7 @@ lines_fit s t steps = list_all (λ p. line_fits s t p.0 p.1) (with_past [] steps
 
 -- the lines of a client came behind ever more messages, and behind `most` at most
 abbrev pub ats_ascend : ℕ → List Did → Bool
-ats_ascend most dids = whole.ats_ascend most (map (λ x. x.at) dids)
+ats_ascend most dids = answers.ats_ascend most (map (λ x. x.at) dids)
 
 -- the client is one of the script's, with a channel for each of its images
 pub record IsOf (s : Script) (c : Client) : Type 0 where

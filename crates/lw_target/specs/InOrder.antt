@@ -12,6 +12,7 @@ use Rattle.lw_model.specs.Journal.{request_of}
 use Rattle.lw_model.specs.Threads.{op_at, image_at}
 use Rattle.lw_model.specs.Holding.{is_putself}
 use Rattle.lw_model.specs.Lawful.{reply_op}
+use Rattle.lw_model.specs.Sent.{to_thread}
 use Rattle.lw_image.specs.Image.{Contents, IsAfter}
 use Rattle.lw_target.specs.declared.mail.Load.{Load}
 use Rattle.lw_target.specs.declared.mail.Load.TheVariants as load
@@ -23,7 +24,7 @@ use Rattle.lw_target.specs.Messages.{Inbox, operands}
 use Rattle.lw_target.specs.ClientLog.{Follows, sent_so_far, was_refused, IsHeldUp}
 use Rattle.lw_target.specs.ClientCalls.{AllAgree, pending_of, reply_carried}
 use Rattle.lw_target.specs.Letters.{Letter, letters, told}
-use Rattle.lw_target.specs.WholeRun.{sent_to, requests_of, answers_of, reply_pairs}
+use Rattle.lw_target.specs.WholeRun.{requests_of, answers_of, reply_pairs}
 
 -- a script of one client on one image
 pub record IsOfOne (s : Script) : Type 0 where
@@ -68,8 +69,8 @@ pub record IsClientInOrder (s : Script) (c : Client) (inbox : Inbox) (devices : 
 
 -- what the client sent is what it told itself and the owner
 pub record IsTold (s : Script) (c : Client) (client owner : Inbox) : Type 0 where
-  pub to_itself : told client 1 ≡ sent_to 1 (sent_so_far s c client.ran)
-  pub to_owner : told owner 1 ≡ sent_to 2 (sent_so_far s c client.ran)
+  pub to_itself : told client 1 ≡ to_thread 1 (sent_so_far s c client.ran)
+  pub to_owner : told owner 1 ≡ to_thread 2 (sent_so_far s c client.ran)
 
 abbrev pub is_reply_to : ℕ → What → Bool
 is_reply_to j w = elim w [ what.Reply k ↦ k == j | _ ↦ false ]

@@ -19,16 +19,12 @@ use Rattle.lw_model.specs.Moves.{number_fits}
 use Rattle.lw_model.specs.Holding.{says, always, ordinal_given}
 use Rattle.lw_model.specs.Devices.{is_refusal}
 use Rattle.lw_model.specs.Lawful.{reply_op}
-use Rattle.lw_whole.specs.Logs.{to_thread}
+use Rattle.lw_model.specs.Sent.{to_thread}
 use Rattle.lw_target.specs.ClientLog.{sends_of_steps, lines_fit, ats_ascend}
 
 -- what was run of a sender
 abbrev pub run_from : ℕ → List Tag → List What
 run_from sender ran = map (λ m. m.what) (filter (λ m. m.sender == sender) ran)
-
--- what of these goes to a receiver
-abbrev pub sent_to : ℕ → List (ℕ × What) → List What
-sent_to receiver sends = to_thread receiver sends
 
 -- each message is numbered by how many of its sender came before
 abbrev pub are_numbered : List Tag → Bool
@@ -69,7 +65,7 @@ pub record OwnerEnded (s : Script) (client owner : ThreadRecord) : Type 0 where
   pub replies : owner.replies ≡ []
   pub senders : list_all (λ m. m.sender == 0 || m.sender == 1) owner.ran ≡ true
   pub of_app : run_from 0 owner.ran ≡ what.Stop ∷ []
-  pub of_client : run_from 1 owner.ran ≡ sent_to 2 (sends_of_steps s 1 (own_order client))
+  pub of_client : run_from 1 owner.ran ≡ to_thread 2 (sends_of_steps s 1 (own_order client))
 
 -- the client did all its ops and closed; it ran its own putselfs and one reply for each request, and lists the answers
 pub record ClientEnded (s : Script) (client owner : ThreadRecord) (end : DeviceEnd) : Type 0 where
@@ -79,7 +75,7 @@ pub record ClientEnded (s : Script) (client owner : ThreadRecord) (end : DeviceE
   pub lines : lines_fit s 1 (own_order client) ≡ true
   pub ats : ats_ascend (length client.ran) client.did ≡ true
   pub senders : list_all (λ m. m.sender == 1 || m.sender == 2) client.ran ≡ true
-  pub of_itself : run_from 1 client.ran ≡ sent_to 1 (sends_of_steps s 1 (own_order client))
+  pub of_itself : run_from 1 client.ran ≡ to_thread 1 (sends_of_steps s 1 (own_order client))
   pub of_owner : run_from 2 client.ran ≡ map (λ k. what.Reply k) (requests_of owner.ran)
   pub replies : reply_pairs client.replies ≡ zip (requests_of owner.ran) (answers_of s owner.ran)
   pub replied : map (λ x. x.op) client.replies ≡ filter_map reply_op client.ran

@@ -4,7 +4,7 @@ ghost use Rattle.std.specs.List.{list_all};
 ghost use Rattle.lw_model.specs.Printable.{has_a_line, has_bytes};
 ghost use Rattle.lw_model.specs.ScriptRules.{rule_broken};
 ghost use Rattle.lw_model.specs.Lawful.{Lawful};
-ghost use Rattle.lw_script.specs.Served.{is_served};
+ghost use Rattle.lw_script_rules.specs.Served.{is_served};
 ghost use Rattle.lw_target.specs.Options.{AreServed};
 ghost use Rattle.lw_target.specs.Ops.{is_servable};
 ghost use Rattle.lw_target.specs.Turns.{OpsFit, IsRunning};

@@ -1,5 +1,5 @@
 -- A text as its lines, and the parts of a line, read from its front. A line here ends with its line feed.
-use Rattle.std.specs.Prelude.{ℕ, ◌+◌, ◌-◌, ◌*◌, Bool, true, false, ◌&&◌, ◌||◌, not, nat_le, nat_lt, ◌==◌, List, [], ◌∷◌, length, take, drop, position, bytes_eq, slice_index, if◌then◌else◌, Option, Some, None, unwrap_or, option_and_then}
+use Rattle.std.specs.Prelude.{ℕ, ◌+◌, Bool, ◌&&◌, ◌||◌, not, nat_le, nat_lt, ◌==◌, List, [], ◌∷◌, length, take, drop, position, bytes_eq, slice_index, if◌then◌else◌, Option, Some, None, unwrap_or, option_and_then}
 use Rattle.lw_base.specs.TextLines.{value_from}
 
 -- ---- lines

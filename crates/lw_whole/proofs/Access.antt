@@ -1,7 +1,9 @@
 -- What stands in the record under a thread is what its log says.
-use Rattle.std.proofs.Common.{◌≡◌, ℕ, zero, suc, ◌+◌, ◌<◌, ◌≤◌, ◌==◌, nat_lt, nat_le, Bool, true, false, List, [], ◌∷◌, map, length, Option, Some, None, slice_get, unwrap_or, option_map, refl, sym, ap, subst, ◌∙◌, arith, inl, inr}
+use Rattle.std.proofs.Common.{◌≡◌, ℕ, zero, suc, ◌+◌, ◌<◌, ◌≤◌, ◌==◌, nat_lt, nat_le, Bool, true, false, List, [], ◌∷◌, map, length, Option, Some, slice_get, unwrap_or, option_map, refl, sym, ap, subst, ◌∙◌, arith, inl, inr}
 use Rattle.std.specs.List.{AllByRecursion, enumerate_from, range_with_len}
 use Rattle.std.proofs.lemmas.Bool.{and_parts, cases_eq, eqb-true, leb-true, false≢true}
+use Rattle.std.proofs.lemmas.Option.{slice_get_past}
+use Rattle.lw_base.proofs.Lists.{get_within}
 use Rattle.lw_model.specs.declared.script.Script.{Script}
 use Rattle.lw_model.specs.declared.record.Record.{Record}
 use Rattle.lw_model.specs.declared.record.ThreadRecord.{ThreadRecord}
@@ -43,25 +45,6 @@ get_map f [] k = refl
 get_map f (x ∷ xs) zero = refl
 get_map f (x ∷ xs) (suc k) = get_map f xs k
 
-pub get_within : {X : Type 0} (xs : List X) (k : ℕ) → k < length xs → (x : X) × (slice_get xs k ≡ Some x)
-get_within [] k less = absurd (omega (arith, less))
-get_within (x ∷ xs) zero less = (x, refl)
-get_within (x ∷ xs) (suc k) less = get_within xs k (omega (arith, less))
-
-pub within_get : {X : Type 0} (xs : List X) (k : ℕ) (x : X) → slice_get xs k ≡ Some x → k < length xs
-within_get [] k x e = cc
-within_get (y ∷ xs) zero x e = omega arith
-within_get (y ∷ xs) (suc k) x e = omega (arith, within_get xs k x e)
-
-pub past_get : {X : Type 0} (xs : List X) (k : ℕ) → length xs ≤ k → slice_get xs k ≡ None
-past_get [] k h = refl
-past_get (x ∷ xs) zero h = absurd (omega (arith, h))
-past_get (x ∷ xs) (suc k) h = past_get xs k (omega (arith, h))
-
-pub no_items : {X : Type 0} (xs : List X) → length xs ≡ 0 → xs ≡ []
-no_items [] e = refl
-no_items (x ∷ xs) e = absurd (omega (arith, e))
-
 pub client_within : (s : Script) (t : ℕ) → is_client s t ≡ true → t < thread_count s
 client_within s t c = omega (arith, leb-true t (length s.clients) (and_parts (nat_lt 0 t) (nat_le t (length s.clients)) c).1)
 
@@ -77,7 +60,7 @@ module _ (r : Record) (logs : List Log) (w : IsWholeRun r logs) where
   of_log f t l e = ap (λ (o : Option ThreadRecord). unwrap_or (option_map f o) []) (under t ∙ ap (λ (o : Option Log). option_map (λ (l : Log). l.lines) o) e)
 
   pub of_none : {X : Type 0} (f : ThreadRecord → List X) (t : ℕ) → length logs ≤ t → of_thread f r t ≡ []
-  of_none f t h = ap (λ (o : Option ThreadRecord). unwrap_or (option_map f o) []) (under t ∙ ap (λ (o : Option Log). option_map (λ (l : Log). l.lines) o) (past_get logs t h))
+  of_none f t h = ap (λ (o : Option ThreadRecord). unwrap_or (option_map f o) []) (under t ∙ ap (λ (o : Option Log). option_map (λ (l : Log). l.lines) o) (slice_get_past logs t h))
 
   pub log_count : length logs ≡ thread_count r.script
   log_count = sym (len logs) ∙ ap length (sym w.threads) ∙ (parts r).threads

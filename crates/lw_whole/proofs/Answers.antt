@@ -15,14 +15,14 @@ use Rattle.lw_model.specs.declared.step.Step.TheVariants as step
 use Rattle.lw_model.specs.Threads.{thread_count, is_client, clients, ops_of, op_at, did_of}
 use Rattle.lw_model.specs.OwnOrder.{own_order, with_past, history}
 use Rattle.lw_model.specs.Holding.{is_started, runs}
-use Rattle.lw_model.specs.Answers.{Answers, answer_fits, depth_fits, completes, is_did, is_completed, earlier_completed, client_did_fits, is_done_of, app_did_fits, step_fits, unregister_fits, wanted}
+use Rattle.lw_model.specs.Answers.{Answers, answer_fits, depth_fits, completes, is_did, is_completed, earlier_completed, client_did_fits, is_done_of, app_did_fits, step_fits, unregister_fits, wanted, ats_ascend}
 use Rattle.lw_model.proofs.Passing.{list_all-same}
-use Rattle.lw_model.proofs.Callbacks.{without}
+use Rattle.lw_model.proofs.Callbacks.{without, any_without}
 use Rattle.lw_whole.specs.Logs.{Log}
-use Rattle.lw_whole.specs.Lines.{awaits, is_a_did, dids_in, client_line_fits, app_line_fits, ats_ascend}
+use Rattle.lw_whole.specs.Lines.{awaits, is_a_did, dids_in, client_line_fits, app_line_fits}
 use Rattle.lw_whole.specs.WholeRun.{IsWholeRun}
 use Rattle.lw_whole.proofs.Access.{of_log, log_of, ended, app_ended, client_ended, owner_ended}
-use Rattle.lw_whole.proofs.Steps.{steps_are, any_without, dids_without, answer_without, depth_without, lifted, Stands, all_stand}
+use Rattle.lw_whole.proofs.Steps.{steps_are, dids_without, answer_without, depth_without, lifted, Stands, all_stand}
 
 -- the `did` line that came last, with its place
 abbrev latest : List Step → Option (ℕ × Did)

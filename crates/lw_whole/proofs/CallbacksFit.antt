@@ -5,6 +5,7 @@ use Rattle.std.specs.List.{list_all, list_any, AllByRecursion}
 use Rattle.std.proofs.lemmas.Bool.{and_parts, and_from, or_left, or_right, eqb-true, leb-true, le-leb, lt-ltb, ltb-true, false≢true, lt-leb, le-ltb}
 use Rattle.std.proofs.lemmas.List.{reverse-append}
 use Rattle.std.proofs.lemmas.List.Folds.{list_all-append}
+use Rattle.lw_base.proofs.Lists.{none_is, reverse_cons, all_parts}
 use Rattle.lw_model.specs.declared.script.Script.{Script}
 use Rattle.lw_model.specs.declared.record.Record.{Record}
 use Rattle.lw_model.specs.declared.record.Called.{Called}
@@ -17,12 +18,11 @@ use Rattle.lw_model.specs.OwnOrder.{own_order, with_past}
 use Rattle.lw_model.specs.Holding.{says, ordinal_given, held}
 use Rattle.lw_model.specs.Devices.{is_began, needs_open, tells_shut, callback_fits}
 use Rattle.lw_model.proofs.Growth.{all-append}
-use Rattle.lw_model.proofs.Callbacks.{without, held-without}
+use Rattle.lw_model.proofs.Callbacks.{without, held-without, any_without}
 use Rattle.lw_model.proofs.Passing.{item_passes}
 use Rattle.lw_whole.specs.Logs.{Log, steps, steps_with_past}
 use Rattle.lw_whole.specs.Lines.{made_before, made_behind, stays_shut, callback_stood}
-use Rattle.lw_whole.proofs.Steps.{steps_are, any_without, Stands, all_stand}
-use Rattle.lw_whole.proofs.ScriptOps.{all_parts}
+use Rattle.lw_whole.proofs.Steps.{steps_are, Stands, all_stand}
 use Rattle.lw_whole.proofs.OwnSorted.{key, Sorted, own_sorted}
 
 -- ---- what stood when a callback came is what stands before it, but for lines that need no channel
@@ -65,9 +65,6 @@ any_first p (x ∷ xs) ys e = at (p x) e (λ f. any_first p xs ys f)
 any_last : (p : Step → Bool) (xs ys : List Step) → list_any p ys ≡ true → list_any p (xs ++ ys) ≡ true
 any_last p [] ys e = e
 any_last p (x ∷ xs) ys e = or_right (p x) (list_any p (xs ++ ys)) (any_last p xs ys e)
-
-reverse_cons : (x : Step) (xs : List Step) → reverse (x ∷ xs) ≡ reverse xs ++ x ∷ []
-reverse_cons x xs = reverse-append (x ∷ []) xs
 
 any_reverse : (p : Step → Bool) (xs : List Step) → list_any p xs ≡ true → list_any p (reverse xs) ≡ true
 any_reverse p [] e = absurd (false≢true e)
@@ -151,10 +148,6 @@ zip_get xs [] i c e f = cc
 zip_get [] (y ∷ ys) i c e f = absurd (omega (arith, e))
 zip_get (x ∷ xs) (y ∷ ys) zero c e f = (x, ap (λ (o : Option Called). elim o as (λ z. Option (ℕ × Called)) [ None ↦ None | Some z ↦ Some (x, z) ]) f)
 zip_get (x ∷ xs) (y ∷ ys) (suc i) c e f = zip_get xs ys i c (omega (arith, e)) f
-
-none_is : (o : Option ℕ) → is_none o ≡ true → o ≡ None
-none_is None e = refl
-none_is (Some k) e = absurd (false≢true e)
 
 module _ (r : Record) (t : ℕ) (l : Log) where
   abbrev on : ℕ → ℕ → Bool

@@ -4,22 +4,18 @@ use Rattle.std.specs.Prelude.{slice_index_or, Any, if◌then◌else◌}
 use Rattle.std.specs.List.{list_all, list_any, range_with_len}
 use Rattle.std.proofs.lemmas.Bool.{cases_eq, eqb-true, and_parts, false≢true, ltb-true, ltb-false, leb-true, ne_eqb}
 use Rattle.lw_base.specs.Letters.{sent_by, Names, Numbered}
-use Rattle.lw_base.specs.Totals.{total}
+use Rattle.lw_base.specs.Totals.{total, times}
 use Rattle.lw_model.specs.declared.script.Script.{Script}
 use Rattle.lw_base.specs.declared.ends.DeviceEnd.{DeviceEnd}
+use Rattle.lw_base.proofs.Lists.{heads, tails}
 use Rattle.lw_model.specs.Threads.{is_on}
 use Rattle.lw_model.specs.Holding.{says, ordinal_given}
 use Rattle.lw_model.specs.Devices.{is_refusal}
+use Rattle.lw_model.specs.Sent.{to_thread}
 use Rattle.lw_whole.specs.Letters.{Letter, Note}
-use Rattle.lw_whole.specs.Logs.{Log, steps, run_by, sent_by_thread, to_thread}
+use Rattle.lw_whole.specs.Logs.{Log, steps, run_by, sent_by_thread}
 use Rattle.lw_whole.specs.Rings.{RingsSettled}
-use Rattle.lw_whole.specs.Notes.{NoteFits, count_begun, begun_in, times, DeviceSettled}
-
-heads : {X : Type 0} {x y : X} {xs ys : List X} → x ∷ xs ≡ y ∷ ys → x ≡ y
-heads e = cc
-
-tails : {X : Type 0} {x y : X} {xs ys : List X} → x ∷ xs ≡ y ∷ ys → xs ≡ ys
-tails e = cc
+use Rattle.lw_whole.specs.Notes.{NoteFits, count_begun, begun_in, DeviceSettled}
 
 -- two functions agree on a range where their lists do
 pub each_in_range : {X : Type 0} (f g : ℕ → X) (a n k : ℕ) → map f (range_with_len a n) ≡ map g (range_with_len a n) → a ≤ k → k < a + n → f k ≡ g k

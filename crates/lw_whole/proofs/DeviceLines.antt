@@ -8,7 +8,10 @@ use Rattle.std.specs.Prelude.{if◌then◌else◌, is_none}
 use Rattle.std.specs.List.{flat_map, AllByRecursion, cons_option, enumerate_from, range_with_len, list_all, list_any}
 use Rattle.std.proofs.lemmas.Bool.{eq-eqb, ne_eqb, and_parts, eqb-true, false≢true, cases_eq}
 use Rattle.std.proofs.lemmas.List.Sums.{sum_by-cons}
+use Rattle.std.proofs.lemmas.List.{nil_from_length}
 use Rattle.lw_base.specs.declared.message.Tag.{Tag}
+use Rattle.lw_base.specs.Totals.{times}
+use Rattle.lw_base.proofs.Totals.{times_append}
 use Rattle.lw_model.specs.declared.record.Record.{Record}
 use Rattle.lw_model.specs.declared.record.Did.{Did}
 use Rattle.lw_model.specs.declared.record.Called.{Called}
@@ -25,9 +28,9 @@ use Rattle.lw_model.proofs.Callbacks.{without}
 use Rattle.lw_model.proofs.Growth.{dids, calleds, rans}
 use Rattle.lw_whole.specs.Letters.{Note}
 use Rattle.lw_whole.specs.Logs.{Log, steps}
-use Rattle.lw_whole.specs.Notes.{count_begun, begun_in, times}
+use Rattle.lw_whole.specs.Notes.{count_begun, begun_in}
 use Rattle.lw_whole.specs.WholeRun.{IsWholeRun}
-use Rattle.lw_whole.proofs.Access.{of_log, log_of, ended, no_items}
+use Rattle.lw_whole.proofs.Access.{of_log, log_of, ended}
 use Rattle.lw_whole.proofs.Steps.{steps_are}
 use Rattle.lw_whole.proofs.Flow.{sum_below, sum_same, sum_has}
 use Rattle.lw_whole.proofs.TokenRuns.{length_append, count_of, count_in_order, count_of-append}
@@ -154,10 +157,6 @@ just_one t (u ∷ v ∷ us) h e = absurd (omega (arith, e))
 
 -- ---- counts
 
-times-append : (k : ℕ) (xs ys : List ℕ) → times k (xs ++ ys) ≡ times k xs + times k ys
-times-append k [] ys = omega arith
-times-append k (x ∷ xs) ys = omega (arith, times-append k xs ys)
-
 counted_times : (k : ℕ) (xs : List ℕ) → count_by (λ m. m == k) xs ≡ times k xs
 counted_times k [] = refl
 counted_times k (x ∷ xs) = sum_by-cons (λ (m : ℕ). cond (m == k) 1 0) x xs ∙ at (x == k) (counted_times k xs)
@@ -170,7 +169,7 @@ adds_length : Adds (λ n. length n.ordinals)
 adds_length = record { none = refl; both = λ n m. length_append n.ordinals m.ordinals }
 
 adds_times : (k : ℕ) → Adds (λ n. times k n.ordinals)
-adds_times k = record { none = refl; both = λ n m. times-append k n.ordinals m.ordinals }
+adds_times k = record { none = refl; both = λ n m. times_append k n.ordinals m.ordinals }
 
 adds_fired : Adds (λ n. n.fired)
 adds_fired = record { none = refl; both = λ n m. refl }
@@ -217,7 +216,7 @@ module _ (r : Record) (logs : List Log) (whole : IsWholeRun r logs) (d : ℕ) (d
   each_ordinal k less =
       counted_times k (over_steps r (ordinal_on r d))
       ∙ ap (times k) all_ordinals
-      ∙ flat_sum (times k) refl (times-append k) (λ t. (own t).ordinals) 0 n
+      ∙ flat_sum (times k) refl (times_append k) (λ t. (own t).ordinals) 0 n
       ∙ from_zero (λ t. times k (own t).ordinals)
       ∙ sym (rows_are_own r logs whole d device (λ m. times k m.ordinals) (adds_times k))
       ∙ (settled r logs whole d device).once k less
@@ -284,6 +283,6 @@ module _ (r : Record) (logs : List Log) (whole : IsWholeRun r logs) (d : ℕ) (d
   called_once =
       let here = called_of who.thread who.within in
       flat_only (λ t. filter_map (called_on r d t) (own_order_of r t)) 0 n who.thread (omega arith) (omega (arith, who.within))
-      (λ t low high other. let there = called_of t (omega (arith, high)) in no_items (filter_map (called_on r d t) (own_order_of r t)) (omega (arith, there.1, none_fired t (omega (arith, high)) other)))
+      (λ t low high other. let there = called_of t (omega (arith, high)) in nil_from_length (filter_map (called_on r d t) (own_order_of r t)) (omega (arith, there.1, none_fired t (omega (arith, high)) other)))
       ∙ just_one who.thread (filter_map (called_on r d who.thread) (own_order_of r who.thread)) here.0 (omega (arith, here.1, one_fired))
       ∙ ap (λ t. t ∷ []) (thread_is r logs whole d device)

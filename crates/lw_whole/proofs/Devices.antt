@@ -18,13 +18,14 @@ use Rattle.lw_model.specs.Holding.{says}
 use Rattle.lw_model.specs.Answers.{is_done_of, unregister_fits}
 use Rattle.lw_model.specs.Devices.{DeviceHolds, Devices, device_at, is_began, needs_open, tells_shut, is_refusal, callback_fits, refusal_fits}
 use Rattle.lw_model.proofs.Passing.{item_passes, all_in_range}
+use Rattle.lw_model.proofs.Callbacks.{any_without}
 use Rattle.lw_whole.specs.Letters.{Letter, row, Note}
 use Rattle.lw_whole.specs.Logs.{Log, without_callbacks, steps, steps_with_past}
 use Rattle.lw_whole.specs.Notes.{note_at, count_begun, row_of, row_in, rows_in, knows_open}
 use Rattle.lw_whole.specs.Lines.{app_line_fits, stays_shut}
 use Rattle.lw_whole.specs.WholeRun.{IsWholeRun}
 use Rattle.lw_whole.proofs.Access.{in_range, client_within, get_map, of_log, log_of, ended, app_ended}
-use Rattle.lw_whole.proofs.Steps.{steps_are, any_without, lifted, Stands, all_stand}
+use Rattle.lw_whole.proofs.Steps.{steps_are, lifted, Stands, all_stand}
 use Rattle.lw_whole.proofs.OwnSorted.{key, Sorted, own_sorted}
 use Rattle.lw_whole.proofs.CallbacksFit.{callbacks_fit}
 use Rattle.lw_whole.proofs.NoteSums.{is_done, own_at, own_is}

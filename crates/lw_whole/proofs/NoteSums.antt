@@ -11,9 +11,9 @@ use Rattle.lw_model.specs.declared.record.Record.{Record}
 use Rattle.lw_model.specs.declared.step.Step.{Step}
 use Rattle.lw_model.specs.Threads.{thread_count, is_client, owner_of, images}
 use Rattle.lw_model.specs.OwnOrder.{with_past}
-use Rattle.lw_model.specs.Sent.{sent_last}
+use Rattle.lw_model.specs.Sent.{sent_last, to_thread}
 use Rattle.lw_whole.specs.Letters.{Letter, Load, row, Note}
-use Rattle.lw_whole.specs.Logs.{Log, addressed, steps, all_sends, run_by, sent_by_thread, to_thread}
+use Rattle.lw_whole.specs.Logs.{Log, addressed, steps, all_sends, run_by, sent_by_thread}
 use Rattle.lw_whole.specs.Sends.{SentAlong}
 use Rattle.lw_whole.specs.Notes.{idle, note_at, both_notes, both_rows, joined, row_of, row_in, rows_in, notes_of}
 use Rattle.lw_whole.specs.WholeRun.{IsWholeRun}

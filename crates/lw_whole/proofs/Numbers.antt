@@ -3,16 +3,18 @@ use Rattle.std.proofs.Common.{◌≡◌, ℕ, suc, ◌+◌, ◌<◌, ◌≤◌, 
 use Rattle.std.specs.Prelude.{slice_index_or, if◌then◌else◌}
 use Rattle.std.specs.List.{list_all, range_with_len}
 use Rattle.std.proofs.lemmas.Bool.{cases_lt}
+use Rattle.std.proofs.lemmas.Option.{slice_get_past}
 use Rattle.lw_base.specs.declared.message.Tag.{Tag}
 use Rattle.lw_base.specs.Letters.{sent_by}
 use Rattle.lw_model.specs.declared.record.Record.{Record}
 use Rattle.lw_model.specs.OwnOrder.{with_past}
 use Rattle.lw_model.specs.Moves.{Numbers, number_fits}
 use Rattle.lw_model.proofs.RunFacts.{numbered_by_sender}
+use Rattle.lw_model.specs.Sent.{to_thread}
 use Rattle.lw_whole.specs.Letters.{Letter}
-use Rattle.lw_whole.specs.Logs.{Log, run_by, sent_by_thread, all_sends, to_thread}
+use Rattle.lw_whole.specs.Logs.{Log, run_by, sent_by_thread, all_sends}
 use Rattle.lw_whole.specs.WholeRun.{IsWholeRun}
-use Rattle.lw_whole.proofs.Access.{of_log, log_of, log_count, ended, past_get}
+use Rattle.lw_whole.proofs.Access.{of_log, log_of, log_count, ended}
 
 abbrev pub tags : List Letter → List Tag
 tags ls = map (λ l. l.tag) ls
@@ -36,7 +38,7 @@ pub run_at : (logs : List Log) (t : ℕ) (l : Log) → slice_get logs t ≡ Some
 run_at logs t l e = ap (λ (o : Option Log). unwrap_or (option_map (λ (x : Log). x.ran) o) []) e
 
 pub none_sent : (logs : List Log) (s : ℕ) → length logs ≤ s → sent_by_thread logs s ≡ []
-none_sent logs s h = ap (λ (o : Option Log). unwrap_or (option_map all_sends o) []) (past_get logs s h)
+none_sent logs s h = ap (λ (o : Option Log). unwrap_or (option_map all_sends o) []) (slice_get_past logs s h)
 
 pub numbers : (r : Record) (logs : List Log) → IsWholeRun r logs → Numbers r
 numbers r logs w t less =

@@ -3,7 +3,8 @@ use Rattle.std.proofs.Common.{◌≡◌, ℕ, suc, ◌+◌, ◌%◌, ◌==◌, n
 use Rattle.std.specs.Prelude.{Any}
 use Rattle.std.specs.List.{list_all, list_any, AllByRecursion, enumerate_from, range_with_len}
 use Rattle.std.proofs.lemmas.Bool.{and_parts, eqb-true, ne_eqb, leb-true, false≢true}
-use Rattle.lw_base.specs.Totals.{total}
+use Rattle.std.proofs.lemmas.List.{nil_from_length}
+use Rattle.lw_base.specs.Totals.{total, times}
 use Rattle.lw_model.specs.declared.script.Script.{Script}
 use Rattle.lw_model.specs.declared.record.Record.{Record}
 use Rattle.lw_model.specs.Threads.{ops_of, is_client, is_on, images}
@@ -18,12 +19,13 @@ use Rattle.lw_model.proofs.Passing.{passes}
 use Rattle.lw_model.proofs.Exact.{buffers_home-exact}
 use Rattle.lw_model.proofs.ExactRounds.{rounds_and_orders-exact}
 use Rattle.lw_model.proofs.Sameness.{Tells-reply, Tells-seen}
+use Rattle.lw_model.specs.Answers.{ats_ascend}
 use Rattle.lw_whole.specs.Letters.{row, Note}
 use Rattle.lw_whole.specs.Logs.{Log, addressed, steps, steps_with_past}
-use Rattle.lw_whole.specs.Notes.{note_at, begun_in, count_begun, rows_in, joined, knows_open, times, notes_of}
-use Rattle.lw_whole.specs.Lines.{ats_ascend, client_line_fits, app_line_fits, stays_shut, callback_stood, reply_in, results_in}
+use Rattle.lw_whole.specs.Notes.{note_at, begun_in, count_begun, rows_in, joined, knows_open, notes_of}
+use Rattle.lw_whole.specs.Lines.{client_line_fits, app_line_fits, stays_shut, callback_stood, reply_in, results_in}
 use Rattle.lw_whole.specs.WholeRun.{Taken, is_for, was_sent}
-use Rattle.lw_whole.proofs.Access.{in_range, no_items}
+use Rattle.lw_whole.proofs.Access.{in_range}
 use Rattle.lw_whole.proofs.Computed.{runs_of, sends_to, senders_are_threads, all_numbered, all_true, run_from, all_numbered_from}
 use Rattle.lw_whole.proofs.Sames.{same_list, tells_list, same_numbers, tells_numbers, same_tag, tells_tag, same_row, tells_row, same_load, tells_load, same_letter, tells_letter, same_sends, tells_sends}
 use Rattle.lw_whole.proofs.SendTests.{sends_along, sends_along_is}
@@ -152,7 +154,7 @@ test_is the.app_count r logs taken e = logs_are _ _ (λ t l f z. eqb-true _ _ (s
 test_is the.app_lines r logs taken e = logs_are _ _ (λ t l f z. so (t == 0) _ f z) logs e
 test_is the.took_in r logs taken e = logs_are _ _ (λ t l f z. tells_row _ _ (so (t == 0) _ f z)) logs e
 test_is the.knew r logs taken e = logs_are _ _ (λ t l f z. so (t == 0) _ f z) logs e
-test_is the.owner_lines r logs taken e = logs_are _ _ (λ t l f z c. no_items l.lines.did (eqb-true _ _ (unless (is_client r.script t) _ (unless (t == 0) _ f z) c))) logs e
+test_is the.owner_lines r logs taken e = logs_are _ _ (λ t l f z c. nil_from_length l.lines.did (eqb-true _ _ (unless (is_client r.script t) _ (unless (t == 0) _ f z) c))) logs e
 test_is the.owner_row r logs taken e = logs_are _ _ (λ t l f z c. tells_row _ _ (unless (is_client r.script t) _ (unless (t == 0) _ f z) c)) logs e
 test_is the.run_is_sent r logs taken e =
     let h = and_parts (same_list (same_list (same_list same_letter)) (runs_of logs) (sends_to logs)) (senders_are_threads logs) e in

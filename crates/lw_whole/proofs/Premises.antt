@@ -3,7 +3,7 @@ use Rattle.std.proofs.Common.{◌≡◌, ℕ, zero, suc, ◌+◌, ◌%◌, ◌<�
 use Rattle.std.specs.Prelude.{Any}
 use Rattle.std.specs.List.{list_all, list_any, AllByRecursion, enumerate_from, range_with_len}
 use Rattle.lw_base.specs.Letters.{sent_by, Numbered}
-use Rattle.lw_base.specs.Totals.{total}
+use Rattle.lw_base.specs.Totals.{total, times}
 use Rattle.lw_model.specs.declared.script.Script.{Script}
 use Rattle.lw_model.specs.declared.record.Record.{Record}
 use Rattle.lw_model.specs.Threads.{ops_of, is_client, is_on, images}
@@ -12,13 +12,14 @@ use Rattle.lw_model.specs.Holding.{says, ordinal_given}
 use Rattle.lw_model.specs.Devices.{device_at, is_began, is_refusal}
 use Rattle.lw_model.specs.Moves.{is_above_last}
 use Rattle.lw_model.specs.Rounds.{RoundsAndOrders}
-use Rattle.lw_model.specs.Sent.{sent_last}
+use Rattle.lw_model.specs.Sent.{sent_last, to_thread}
 use Rattle.lw_model.specs.Lawful.{BuffersHome}
+use Rattle.lw_model.specs.Answers.{ats_ascend}
 use Rattle.lw_whole.specs.Letters.{row, Note}
-use Rattle.lw_whole.specs.Logs.{Log, addressed, steps, steps_with_past, run_by, sent_by_thread, to_thread}
+use Rattle.lw_whole.specs.Logs.{Log, addressed, steps, steps_with_past, run_by, sent_by_thread}
 use Rattle.lw_whole.specs.Sends.{SentAlong}
-use Rattle.lw_whole.specs.Notes.{note_at, begun_in, count_begun, rows_in, joined, knows_open, times, notes_of, NoteFits, DeviceSettled}
-use Rattle.lw_whole.specs.Lines.{ats_ascend, client_line_fits, app_line_fits, stays_shut, callback_stood, reply_in, results_in}
+use Rattle.lw_whole.specs.Notes.{note_at, begun_in, count_begun, rows_in, joined, knows_open, notes_of, NoteFits, DeviceSettled}
+use Rattle.lw_whole.specs.Lines.{client_line_fits, app_line_fits, stays_shut, callback_stood, reply_in, results_in}
 use Rattle.lw_whole.specs.Threads.{Ended, EndedAs}
 use Rattle.lw_whole.specs.WholeRun.{Taken, is_for, was_sent, IsWholeRun}
 use Rattle.lw_whole.proofs.Access.{at_number, RoleOf}

@@ -16,10 +16,10 @@ use Rattle.lw_model.specs.declared.step.Step.TheVariants as step
 use Rattle.lw_model.specs.Threads.{EachThread, thread_count, owner_of, is_client, is_owner, is_on, images}
 use Rattle.lw_model.specs.OwnOrder.{own_order, with_past}
 use Rattle.lw_model.specs.Holding.{references, runs}
-use Rattle.lw_model.specs.Sent.{is_same_token, token_of, started, sent_by, sent_by_did, sent_by_ran, sent_last, all_sent, sent, run_of}
+use Rattle.lw_model.specs.Sent.{is_same_token, token_of, started, sent_by, sent_by_did, sent_by_ran, sent_last, all_sent, sent, run_of, to_thread}
 use Rattle.lw_model.proofs.Callbacks.{without, references-without}
 use Rattle.lw_whole.specs.Letters.{Letter}
-use Rattle.lw_whole.specs.Logs.{Log, addressed, steps, all_sends, sent_by_thread, to_thread}
+use Rattle.lw_whole.specs.Logs.{Log, addressed, steps, all_sends, sent_by_thread}
 use Rattle.lw_whole.specs.Sends.{Sets, SentByDid, SentByRan, SentBy, SentAlong, Sends, Replies}
 use Rattle.lw_whole.specs.WholeRun.{IsWholeRun}
 use Rattle.lw_whole.proofs.Access.{of_log, of_none, log_of, log_count, ended, client_ended}

@@ -18,10 +18,10 @@ use Rattle.lw_model.specs.Threads.{thread_count, owner_of, is_client, is_owner, 
 use Rattle.lw_model.specs.OwnOrder.{with_past}
 use Rattle.lw_model.specs.Journal.{request_of, answers, look_up, reply_of}
 use Rattle.lw_model.specs.Replay.{replay, answer_after}
-use Rattle.lw_model.specs.Sent.{sent_last}
+use Rattle.lw_model.specs.Sent.{sent_last, to_thread}
 use Rattle.lw_model.specs.Lawful.{Replies, reply_op, owed}
 use Rattle.lw_whole.specs.Letters.{Letter}
-use Rattle.lw_whole.specs.Logs.{Log, addressed, all_sends, to_thread}
+use Rattle.lw_whole.specs.Logs.{Log, addressed, all_sends}
 use Rattle.lw_whole.specs.Sends.{answer_in, block_of_owner, ops_run, SentAlong}
 use Rattle.lw_whole.specs.Lines.{reply_in}
 use Rattle.lw_whole.specs.WholeRun.{IsWholeRun}

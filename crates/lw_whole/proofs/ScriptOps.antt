@@ -1,8 +1,9 @@
 -- What the ops of an accepted script keep.
-use Rattle.std.proofs.Common.{◌≡◌, ℕ, zero, suc, ◌+◌, ◌<◌, ◌≤◌, nat_lt, nat_le, Bool, true, false, ◌&&◌, List, [], ◌∷◌, ◌++◌, map, length, Option, Some, None, slice_get, unwrap_or, option_map, refl, sym, ap, subst, ◌∙◌, arith}
+use Rattle.std.proofs.Common.{◌≡◌, ℕ, zero, suc, ◌+◌, ◌<◌, ◌≤◌, nat_lt, nat_le, Bool, true, false, ◌&&◌, List, [], ◌∷◌, map, length, Option, Some, None, slice_get, unwrap_or, option_map, refl, sym, ap, subst, ◌∙◌, arith}
 use Rattle.std.specs.Prelude.{option_and_then}
 use Rattle.std.specs.List.{list_all, flat_map, enumerate_from, AllByRecursion}
 use Rattle.std.proofs.lemmas.Bool.{and_parts, ltb-true, false≢true}
+use Rattle.lw_base.proofs.Lists.{get_within, none_mapped, all_parts}
 use Rattle.lw_model.specs.declared.script.Script.{Script}
 use Rattle.lw_model.specs.declared.script.ClientOf.{ClientOf}
 use Rattle.lw_model.specs.declared.script.ImageOf.{ImageOf}
@@ -13,13 +14,8 @@ use Rattle.lw_model.specs.ScriptRules.{rule_broken, rule_answers, first_out_of_r
 use Rattle.lw_model.specs.Threads.{op_at, image_at}
 use Rattle.lw_model.proofs.Passing.{item_passes, list_all-flat_map}
 use Rattle.lw_model.proofs.Rules.{each-none, each_passes, names-kept, block_sizes-kept}
-use Rattle.lw_whole.proofs.Access.{get_within}
 
 -- ---- the ops of a client among all
-
-pub all_parts : {X : Type 0} (P : X → Type 0) (xs ys : List X) → AllByRecursion P (xs ++ ys) → AllByRecursion P xs × AllByRecursion P ys
-all_parts P [] ys h = (tt, h)
-all_parts P (x ∷ xs) ys h = let rest = all_parts P xs ys h.1 in ((h.0, rest.0), rest.1)
 
 in_flat : {X Y : Type 0} (P : Y → Type 0) (f : X → List Y) (xs : List X) (k : ℕ) (x : X) → AllByRecursion P (flat_map f xs) → slice_get xs k ≡ Some x → AllByRecursion P (f x)
 in_flat P f [] k x h e = cc
@@ -56,10 +52,6 @@ placed_holds Q s h (suc c) k o e =
     let x = of_client s c k o e in
     let n = numbered_get 0 s.clients c x.0 x.1 in
     op_holds Q n.0 0 x.0.ops k o (in_flat (λ (p : Placed). Q p.op) (λ y. map (λ z. record { client = y.0; place = z.0; op = z.1 }) (enumerate_from 0 y.1.ops)) (enumerate_from 0 s.clients) c (n.0, x.0) h n.1) x.2
-
-none_mapped : {X Y : Type 0} (f : X → Y) (o : Option X) → option_map f o ≡ None → o ≡ None
-none_mapped f None e = refl
-none_mapped f (Some x) e = cc
 
 -- a read is of one block at least
 abbrev pub ReadsSome : Op → Type 0

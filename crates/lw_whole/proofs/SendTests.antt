@@ -17,20 +17,14 @@ use Rattle.lw_model.specs.Threads.{thread_count, owner_of, is_client, is_owner, 
 use Rattle.lw_model.specs.Replay.{answer_after}
 use Rattle.lw_model.specs.Sent.{must_run, completion, referred, token_of}
 use Rattle.lw_model.proofs.Sameness.{Tells-what}
+use Rattle.lw_model.specs.Printable.{is_empty}
+use Rattle.lw_model.proofs.Printed.{empty_is}
 use Rattle.lw_whole.specs.Letters.{Letter, Load}
 use Rattle.lw_whole.specs.Logs.{Log, addressed, load_at}
 use Rattle.lw_whole.specs.Tokens.{empty_load, load_behind, GoesOn}
 use Rattle.lw_whole.specs.Sends.{answers_in, ops_run, block_of_owner, Sets, SentByDid, Replies, SentByRan, SentBy, SentAlong}
 use Rattle.lw_whole.proofs.TokenCounts.{Either}
 use Rattle.lw_whole.proofs.Sames.{same_load, tells_load, same_sends, tells_sends, same_answers, tells_answers}
-
-abbrev is_empty : List (ℕ × Letter) → Bool
-is_empty [] = true
-is_empty (p ∷ ps) = false
-
-empty_is : (now : List (ℕ × Letter)) → is_empty now ≡ true → now ≡ []
-empty_is [] e = refl
-empty_is (p ∷ ps) e = absurd (false≢true e)
 
 abbrev passes_by : Script → What → ℕ → ℕ → Bool
 passes_by s w from to = list_all (λ v. not (must_run s w v)) (range_with_len from (to - from))

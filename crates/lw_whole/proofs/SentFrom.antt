@@ -3,11 +3,12 @@ use Rattle.std.proofs.Common.{◌≡◌, ℕ, zero, suc, ◌<◌, ◌==◌, Bool
 use Rattle.std.specs.Prelude.{◌⊎◌, if◌then◌else◌}
 use Rattle.std.specs.List.{flat_map}
 use Rattle.std.proofs.lemmas.Bool.{eqb-true, cases_lt}
+use Rattle.std.proofs.lemmas.Option.{slice_get_within}
 use Rattle.lw_base.specs.Letters.{sent_by}
+use Rattle.lw_base.proofs.Lists.{get_within}
 use Rattle.lw_whole.specs.Letters.{Letter}
 use Rattle.lw_whole.specs.Logs.{Log, all_sends, sent_by_thread}
 use Rattle.lw_whole.specs.Rings.{RingsSettled}
-use Rattle.lw_whole.proofs.Access.{get_within, within_get}
 use Rattle.lw_whole.proofs.Numbers.{run_at, none_sent}
 use Rattle.lw_whole.proofs.TokenBack.{Among, among_either, of_some_sender, IsTo, sent_to}
 
@@ -42,7 +43,7 @@ pub came_from : (logs : List Log) → RingsSettled logs → (u : ℕ) (l : Log) 
 came_from logs rings u l at i x e =
     let by = of_some_sender (λ y. y ≡ x) l.ran (among_get l.ran i x e) in
     let sent : Among (IsTo u (λ y. y ≡ x)) (sent_by_thread logs by.0) = sent_to u (λ y. y ≡ x) (sent_by_thread logs by.0)
-    (subst (Among (λ y. y ≡ x)) (ap (sent_by (λ l. l.tag) by.0) (sym (run_at logs u l at)) ∙ rings.run_is_sent u by.0 (within_get logs u l at)) by.1) in
+    (subst (Among (λ y. y ≡ x)) (ap (sent_by (λ l. l.tag) by.0) (sym (run_at logs u l at)) ∙ rings.run_is_sent u by.0 (slice_get_within logs u l at)) by.1) in
     elim (cases_lt by.0 (length logs)) [
       | inl within ↦
           let s = get_within logs by.0 within in

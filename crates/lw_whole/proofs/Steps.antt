@@ -1,6 +1,6 @@
 -- Steps with and without the callbacks.
-use Rattle.std.proofs.Common.{◌≡◌, ℕ, suc, ◌+◌, ◌==◌, nat_lt, Bool, true, false, cond, not, ◌&&◌, ◌||◌, List, [], ◌∷◌, ◌++◌, map, filter, length, Option, Some, None, slice_get, refl, sym, ap, ap₂, subst, ◌∙◌, arith}
-use Rattle.std.specs.List.{list_all, list_any, AllByRecursion, enumerate_from}
+use Rattle.std.proofs.Common.{◌≡◌, ℕ, suc, ◌+◌, ◌==◌, nat_lt, Bool, true, cond, not, ◌&&◌, ◌||◌, List, [], ◌∷◌, ◌++◌, map, filter, length, Option, Some, None, slice_get, refl, sym, ap, ap₂, subst, ◌∙◌, arith}
+use Rattle.std.specs.List.{list_all, AllByRecursion, enumerate_from}
 use Rattle.std.proofs.lemmas.Bool.{and_parts, and_from}
 use Rattle.std.proofs.lemmas.List.Sums.{sum_by-cons}
 use Rattle.lw_base.specs.declared.message.Tag.{Tag}
@@ -25,13 +25,6 @@ use Rattle.lw_whole.specs.Lines.{is_a_did, dids_in}
 -- the steps of a log are those of its lines but the callbacks
 pub steps_are : (l : Log) → without (own_order l.lines) ≡ steps l
 steps_are l = without-own_order l.lines
-
--- tests that don't hold of callbacks
-pub any_without : (p : Step → Bool) → ((i : ℕ) (x : Called) → p (step.Called i x) ≡ false) → (past : List Step) → list_any p past ≡ list_any p (without past)
-any_without p skips [] = refl
-any_without p skips (step.Did i x ∷ past) = ap (λ b. p (step.Did i x) || b) (any_without p skips past)
-any_without p skips (step.Called i x ∷ past) = ap (λ b. b || list_any p past) (skips i x) ∙ any_without p skips past
-any_without p skips (step.Ran i m ∷ past) = ap (λ b. p (step.Ran i m) || b) (any_without p skips past)
 
 pub dids_without : (past : List Step) → dids_in past ≡ dids_in (without past)
 dids_without [] = refl

@@ -15,9 +15,9 @@ use Rattle.lw_model.specs.declared.step.Step.{Step}
 use Rattle.lw_model.specs.declared.step.Step.TheVariants as step
 use Rattle.lw_model.specs.Threads.{is_client, is_owner, op_at, image_at, owner_of}
 use Rattle.lw_model.specs.Holding.{runs}
-use Rattle.lw_model.specs.Sent.{is_same_token, token_of, token_of_op, completion, referred}
+use Rattle.lw_model.specs.Sent.{is_same_token, token_of, token_of_op, completion, referred, to_thread}
 use Rattle.lw_whole.specs.Letters.{Letter, Load}
-use Rattle.lw_whole.specs.Logs.{Log, addressed, to_thread}
+use Rattle.lw_whole.specs.Logs.{Log, addressed}
 use Rattle.lw_whole.specs.Tokens.{GoesOn}
 use Rattle.lw_whole.specs.Sends.{Sets, Replies, SentByDid, SentByRan, SentBy, SentAlong}
 use Rattle.lw_whole.proofs.Flow.{count_at}

@@ -17,9 +17,9 @@ use Rattle.lw_model.specs.Threads.{thread_count, is_client, ops_of, op_at, image
 use Rattle.lw_model.specs.OwnOrder.{with_past}
 use Rattle.lw_model.specs.Holding.{is_started, runs}
 use Rattle.lw_model.specs.Answers.{answer_fits, depth_fits}
-use Rattle.lw_model.specs.Sent.{is_same_token, token_of, token_of_op, sent_last}
+use Rattle.lw_model.specs.Sent.{is_same_token, token_of, token_of_op, sent_last, to_thread}
 use Rattle.lw_whole.specs.Letters.{Letter}
-use Rattle.lw_whole.specs.Logs.{Log, steps, steps_with_past, all_sends, run_by, sent_by_thread, to_thread}
+use Rattle.lw_whole.specs.Logs.{Log, steps, steps_with_past, all_sends, run_by, sent_by_thread}
 use Rattle.lw_whole.specs.Sends.{SentAlong}
 use Rattle.lw_whole.specs.Lines.{awaits, dids_in, client_line_fits}
 use Rattle.lw_whole.specs.WholeRun.{IsWholeRun}

@@ -3,6 +3,7 @@ use Rattle.std.proofs.Common.{◌≡◌, ℕ, ◌+◌, ◌<◌, ◌≤◌, ◌==
 use Rattle.std.specs.Prelude.{is_none}
 use Rattle.std.specs.List.{list_all}
 use Rattle.std.proofs.lemmas.Bool.{and_parts, eqb-true, false≢true}
+use Rattle.std.proofs.lemmas.Option.{slice_get_within}
 use Rattle.lw_base.specs.declared.message.What.{What}
 use Rattle.lw_base.specs.declared.message.What.TheVariants as what
 use Rattle.lw_model.specs.declared.script.Script.{Script}
@@ -17,7 +18,6 @@ use Rattle.lw_model.specs.Answers.{completes, answer_fits, depth_fits}
 use Rattle.lw_model.specs.Sent.{token_of, token_of_op}
 use Rattle.lw_whole.specs.Letters.{Letter}
 use Rattle.lw_whole.specs.Lines.{awaits, is_a_did, dids_in, client_line_fits}
-use Rattle.lw_whole.proofs.Access.{within_get}
 use Rattle.lw_whole.proofs.Answers.{one_more, one_ran, one_called}
 use Rattle.lw_whole.proofs.TokenCounts.{starts, dests, outs}
 use Rattle.lw_whole.proofs.TokenRuns.{count_of}
@@ -141,6 +141,6 @@ module _ (s : Script) (t : ℕ) (w : What) where
         where
           op_within : (o : Option Op) → op_at s t (op_of w) ≡ o → elim o [ None ↦ None | Some y ↦ token_of_op t (op_of w) y ] ≡ Some w → op_of w < length (ops_of s t)
           op_within None e f = cc
-          op_within (Some y) e f = within_get (ops_of s t) (op_of w) y e
+          op_within (Some y) e f = slice_get_within (ops_of s t) (op_of w) y e
       at true e (step.Called i d) is fits more some go = absurd (false≢true (subst (λ z. starts s t w z ≡ true) is e))
       at true e (step.Ran i m) is fits more some go = absurd (false≢true (subst (λ z. starts s t w z ≡ true) is e))

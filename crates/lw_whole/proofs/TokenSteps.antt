@@ -1,5 +1,6 @@
 -- Where a token was started or run once, the step that did so sent all that became of it.
 use Rattle.std.proofs.Common.{◌≡◌, ℕ, ◌+◌, ◌≤◌, Bool, true, cond, List, [], ◌∷◌, ◌++◌, length, append_assoc, append-nil, sym, ap, ap₂, ◌∙◌, arith}
+use Rattle.std.proofs.lemmas.List.{nil_from_length}
 use Rattle.lw_base.specs.declared.message.What.{What}
 use Rattle.lw_model.specs.declared.script.Script.{Script}
 use Rattle.lw_model.specs.declared.step.Step.{Step}
@@ -7,7 +8,6 @@ use Rattle.lw_model.specs.OwnOrder.{with_past}
 use Rattle.lw_whole.specs.Letters.{Letter}
 use Rattle.lw_whole.specs.Logs.{Log}
 use Rattle.lw_whole.specs.Sends.{SentBy, SentAlong}
-use Rattle.lw_whole.proofs.Access.{no_items}
 use Rattle.lw_whole.proofs.TokenCounts.{dests, outs}
 use Rattle.lw_whole.proofs.TokenRuns.{length_append, count_of, few_out}
 
@@ -37,8 +37,8 @@ module _ (s : Script) (t : ℕ) (l : Log) (p : Step → Bool) (n : ℕ) (w : Wha
       → (whole ≡ dests n w now) × (length (dests n w now) ≡ 1)
   only_now whole total past x rest now sends h is one full g =
       let one_here = ap {B = ℕ} (λ b. cond b 1 0) is in
-      let first = no_items g.before (omega (arith, g.few, g.counts, one, one_here)) in
-      let last = no_items (outs p n w (with_past (x ∷ past) rest) sends) (omega (arith, few_out s t l p n w few (x ∷ past) rest sends h.1, g.counts, one, one_here)) in
+      let first = nil_from_length g.before (omega (arith, g.few, g.counts, one, one_here)) in
+      let last = nil_from_length (outs p n w (with_past (x ∷ past) rest) sends) (omega (arith, few_out s t l p n w few (x ∷ past) rest sends h.1, g.counts, one, one_here)) in
       let same : whole ≡ dests n w now
       = g.whole_is ∙ ap (λ b. g.before ++ (cond b (dests n w now) [] ++ outs p n w (with_past (x ∷ past) rest) sends)) is
       ∙ ap₂ (λ xs ys. xs ++ (dests n w now ++ ys)) first last ∙ append-nil (dests n w now) in

@@ -3,6 +3,7 @@ use Rattle.std.proofs.Common.{◌≡◌, ℕ, zero, suc, ◌+◌, ◌<◌, ◌==
 use Rattle.std.specs.Prelude.{◌⊎◌, Any, if◌then◌else◌}
 use Rattle.std.specs.List.{cons_option, enumerate_from}
 use Rattle.std.proofs.lemmas.Bool.{eqb-true, false≢true, ne_eqb}
+use Rattle.std.proofs.lemmas.Option.{slice_get_within}
 use Rattle.lw_base.specs.declared.message.What.{What}
 use Rattle.lw_base.specs.declared.message.What.TheVariants as what
 use Rattle.lw_base.specs.declared.ends.DeviceEnd.{DeviceEnd}
@@ -11,6 +12,7 @@ use Rattle.lw_model.specs.Threads.{thread_count, is_client, is_on}
 use Rattle.lw_model.specs.Devices.{device_at}
 use Rattle.lw_base.specs.declared.message.Tag.{Tag}
 use Rattle.lw_base.specs.Totals.{total}
+use Rattle.lw_base.proofs.Lists.{get_within}
 use Rattle.lw_model.specs.declared.step.Step.TheVariants as step
 use Rattle.lw_whole.proofs.Replying.{owner_steps}
 use Rattle.lw_whole.proofs.TokenFlow.{sum_only}
@@ -19,7 +21,7 @@ use Rattle.lw_whole.specs.Letters.{Letter, row, Note}
 use Rattle.lw_whole.specs.Logs.{Log}
 use Rattle.lw_whole.specs.Notes.{idle, note_at, both_notes, both_rows, joined, row_of, row_in, rows_in, NoteFits, DeviceSettled, notes_of, count_begun, begun_in}
 use Rattle.lw_whole.specs.WholeRun.{IsWholeRun}
-use Rattle.lw_whole.proofs.Access.{at_number, in_range, get_within, within_get, log_of, log_count, ended, app_ended, client_ended, owner_ended}
+use Rattle.lw_whole.proofs.Access.{at_number, in_range, log_of, log_count, ended, app_ended, client_ended, owner_ended}
 use Rattle.lw_whole.proofs.TokenBack.{Among, IsTo}
 use Rattle.lw_whole.proofs.AtStep.{at_step}
 use Rattle.lw_whole.proofs.SentFrom.{SentFrom}
@@ -189,7 +191,7 @@ module _ (r : Record) (logs : List Log) (whole : IsWholeRun r logs) where
     who_began : WhoBegan
     who_began =
         let one = any_log (DidBegin end.given end.thread) (λ l. note_at l.row d) logs settled.began in
-        let less : one.0 < n = omega (arith, within_get logs one.0 one.1 one.2, log_count r logs whole) in
+        let less : one.0 < n = omega (arith, slice_get_within logs one.0 one.1 one.2, log_count r logs whole) in
         role one.0 one.1 one.2 less one.3 (one.0 == 0) refl (is_client r.script one.0) refl
       where
         of_app : (l : Log) → slice_get logs 0 ≡ Some l → DidBegin end.given end.thread (note_at l.own d) ⊎ Among (λ ms. DidBegin end.given end.thread (note_at ms d)) (rows_in l.ran) → WhoBegan

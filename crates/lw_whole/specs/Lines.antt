@@ -10,17 +10,12 @@ use Rattle.lw_model.specs.declared.record.Reply.{Reply}
 use Rattle.lw_model.specs.declared.record.Seen.{Seen}
 use Rattle.lw_model.specs.declared.record.SeenBy.TheVariants as by
 use Rattle.lw_model.specs.Threads.{ops_of, op_at, is_on, clients}
-use Rattle.lw_model.specs.OwnOrder.{with_past}
 use Rattle.lw_model.specs.Holding.{is_started, says, held}
-use Rattle.lw_model.specs.Answers.{answer_fits, depth_fits, completes, unregister_fits, is_done_of, at_fits}
+use Rattle.lw_model.specs.Answers.{answer_fits, depth_fits, completes, unregister_fits, is_done_of}
 use Rattle.lw_model.specs.Devices.{is_began, needs_open, tells_shut}
 use Rattle.lw_whole.specs.Letters.{Letter, marks_in, threads_in}
 use Rattle.lw_whole.specs.Logs.{Log, steps}
 use Rattle.lw_whole.specs.Sends.{answer_in}
-
--- each of these numbers is not below the one before it, and at most `most`
-abbrev pub ats_ascend : ℕ → List ℕ → Bool
-ats_ascend most ats = list_all (λ p. at_fits most p.0 p.1) (with_past [] ats)
 
 -- the op whose completion a client awaits behind the steps of `past`, the latest first
 abbrev pub awaits : Script → ℕ → List Step → Option ℕ

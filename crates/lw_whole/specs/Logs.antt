@@ -1,5 +1,5 @@
 -- What one light thread leaves behind, as plain data.
-use Rattle.std.specs.Prelude.{ℕ, List, [], ◌++◌, map, filter, ◌==◌, unwrap_or, option_map, slice_get}
+use Rattle.std.specs.Prelude.{ℕ, List, [], ◌++◌, map, unwrap_or, option_map, slice_get}
 use Rattle.std.specs.List.{flat_map}
 use Rattle.lw_base.specs.declared.message.What.{What}
 use Rattle.lw_model.specs.declared.step.Step.{Step}
@@ -50,7 +50,3 @@ run_by logs t = unwrap_or (option_map (λ l. l.ran) (slice_get logs t)) []
 
 abbrev pub sent_by_thread : List Log → ℕ → List (ℕ × Letter)
 sent_by_thread logs s = unwrap_or (option_map all_sends (slice_get logs s)) []
-
--- of these, what goes to thread t
-abbrev pub to_thread : {X : Type 0} → ℕ → List (ℕ × X) → List X
-to_thread t sends = map (λ p. p.1) (filter (λ p. p.0 == t) sends)

@@ -1,7 +1,7 @@
 -- What the rows of the registry keep.
 use Rattle.std.specs.Prelude.{ℕ, ◌+◌, ◌≡◌, ◌<◌, ◌≤◌, ◌==◌, Bool, true, cond, ◌&&◌, ◌||◌, not, if◌then◌else◌, List, [], ◌∷◌, ◌++◌, length, map, take, count_by, filter_map, Option, Some, None, unwrap_or, slice_get, Any}
 use Rattle.std.specs.List.{list_all, list_any, AllByRecursion, enumerate_from}
-use Rattle.lw_base.specs.Totals.{total}
+use Rattle.lw_base.specs.Totals.{total, times}
 use Rattle.lw_base.specs.declared.message.What.TheVariants as what
 use Rattle.lw_model.specs.declared.script.Script.{Script}
 use Rattle.lw_model.specs.declared.step.Step.{Step}
@@ -84,11 +84,6 @@ knows_open n = n.found == 0 && n.begun == 0
 pub record TookIn (l : Log) : Type 0 where
   pub joined : l.row ≡ joined l.own (rows_in l.ran)
   pub knew : list_all (λ x. not (is_began x.answer) || list_all (λ ns. knows_open (note_at ns x.op)) (rows_in (take x.at l.ran))) l.lines.did ≡ true
-
--- how often a number is among these
-abbrev pub times : ℕ → List ℕ → ℕ
-times k [] = 0
-times k (x ∷ xs) = (if x == k then 1 else 0) + times k xs
 
 -- what is known of a device once all its rows are in one hand and it has fired
 pub record DeviceSettled (ns : List Note) (e : DeviceEnd) : Type 0 where

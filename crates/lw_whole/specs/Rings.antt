@@ -1,7 +1,8 @@
 -- What settled rings say of the logs.
 use Rattle.std.specs.Prelude.{ℕ, ◌≡◌, ◌<◌, List, length}
+use Rattle.lw_model.specs.Sent.{to_thread}
 use Rattle.lw_base.specs.Letters.{sent_by, Numbered}
-use Rattle.lw_whole.specs.Logs.{Log, run_by, sent_by_thread, to_thread}
+use Rattle.lw_whole.specs.Logs.{Log, run_by, sent_by_thread}
 
 -- the ring of each thread was closed and settled with all its ends: of each sender, what the thread ran is what the sender
 -- sent to it, in order; and what each end sent is numbered from 0

@@ -5,11 +5,12 @@ use Rattle.lw_model.specs.declared.script.Script.{Script}
 use Rattle.lw_model.specs.ScriptRules.{rule_broken}
 use Rattle.lw_model.specs.Printable.{has_role}
 use Rattle.lw_model.specs.Threads.{thread_count, ops_of, is_client, images}
+use Rattle.lw_model.specs.Answers.{ats_ascend}
 use Rattle.lw_whole.specs.Logs.{Log, steps_with_past}
 use Rattle.lw_whole.specs.Rings.{RingsSettled}
 use Rattle.lw_whole.specs.Sends.{Sends}
 use Rattle.lw_whole.specs.Notes.{RowFits, TookIn}
-use Rattle.lw_whole.specs.Lines.{ats_ascend, client_line_fits, app_line_fits, stays_shut, callback_stood, reply_in, results_in}
+use Rattle.lw_whole.specs.Lines.{client_line_fits, app_line_fits, stays_shut, callback_stood, reply_in, results_in}
 
 -- a client did all its ops and closed; it lists the replies and results that its messages brought; its row went with its Done
 pub record ClientEnded (s : Script) (t : ℕ) (l : Log) : Type 0 where

@@ -1,7 +1,7 @@
 -- What accepted events keep.
-use Rattle.std.proofs.Common.{◌≡◌, ◌≤◌, ◌<◌, inl, inr, ℕ, zero, suc, ◌+◌, Bool, true, false, not, ◌&&◌, ◌||◌, nat_lt, List, [], ◌∷◌, refl, sym, ap, ◌∙◌, arith, slice_set, None}
+use Rattle.std.proofs.Common.{◌≡◌, ◌≤◌, ◌<◌, inl, inr, ℕ, zero, suc, ◌+◌, Bool, true, false, not, ◌&&◌, nat_lt, List, [], ◌∷◌, refl, sym, ap, ◌∙◌, arith, slice_set, None}
 use Rattle.std.proofs.lemmas.List.{length-set}
-use Rattle.std.proofs.lemmas.Bool.{leb-false, true≢false, ltb-true, ltb-false}
+use Rattle.std.proofs.lemmas.Bool.{leb-false, true≢false, ltb-true, ltb-false, or_parts, and_parts}
 use Rattle.lw_world.specs.declared.world_state.Standing.{Standing}
 use Rattle.lw_world.specs.declared.world_state.Standing.TheVariants as standing
 use Rattle.lw_world.specs.declared.world_state.Stage.{Stage}
@@ -32,18 +32,10 @@ not_false : (b : Bool) → not b ≡ false → b ≡ true
 not_false true h = refl
 not_false false h = absurd (true≢false h)
 
-both_true : (a b : Bool) → (a && b) ≡ true → (a ≡ true) × (b ≡ true)
-both_true true b h = (refl, h)
-both_true false b h = absurd (true≢false (sym h))
-
-either_false : (a b : Bool) → (a || b) ≡ false → (a ≡ false) × (b ≡ false)
-either_false true b h = absurd (true≢false h)
-either_false false b h = (refl, h)
-
 none_below : (n : ℕ) (p : ℕ → Bool) (i : ℕ) → any_below n p ≡ false → i < n → p i ≡ false
 none_below zero p i h below = absurd (omega (arith, below))
 none_below (suc n) p i h below =
-    let parts = either_false (any_below n p) (p n) h in
+    let parts = or_parts (any_below n p) (p n) h in
     elim (same_or_not i n) [
       | inl e ↦ ap p e ∙ parts.1
       | inr apart ↦ none_below n p i parts.0 (omega (arith, below, apart))
@@ -136,7 +128,7 @@ module _ (p : Parts) (sound : IsSound p) where
   run_known : (r s : ℕ) → refusal_of (state_of p) (Run r s) ≡ None → r < p.threads
   run_known r s allowed =
       let both = not_false (nat_lt s p.threads && nat_lt r p.threads) (run_tests r s allowed).0 in
-      ltb-true r p.threads (both_true (nat_lt s p.threads) (nat_lt r p.threads) both).1
+      ltb-true r p.threads (and_parts (nat_lt s p.threads) (nat_lt r p.threads) both).1
 
   run_alive : (r s : ℕ) → refusal_of (state_of p) (Run r s) ≡ None → is_ended (state_of p) r ≡ false
   run_alive r s allowed = alive (standing_of (state_of p) r) (not_false (acts (state_of p) r) (run_tests r s allowed).1.1.0)
@@ -169,7 +161,7 @@ module _ (p : Parts) (sound : IsSound p) where
       let tests = all_fail (tests_of (state_of p) (End t)) allowed in
       let ran = tests.1.1.1.0 in
       let owned = tests.1.1.1.1.0 in
-      let visited = (either_false (visits_some (state_of p) t) (owes_callback (state_of p) t) tests.1.1.1.1.1.0).0 in
+      let visited = (or_parts (visits_some (state_of p) t) (owes_callback (state_of p) t) tests.1.1.1.1.1.0).0 in
       record {
         few_threads = sound.few_threads;
         few_devices = sound.few_devices;
@@ -200,7 +192,7 @@ module _ (p : Parts) (sound : IsSound p) where
       → IsSound (record p { stage = record p.stage { states = slice_set p.stage.states d stage.Fired } })
   sound_fire t d allowed =
       let tests = all_fail (tests_of (state_of p) (Fire t d)) allowed in
-      let free = either_false (has_owner (state_of p) d) (has_visit (state_of p) d) tests.1.1.1.1.1.0 in
+      let free = or_parts (has_owner (state_of p) d) (has_visit (state_of p) d) tests.1.1.1.1.1.0 in
       record {
         few_threads = sound.few_threads;
         few_devices = sound.few_devices;

@@ -1,10 +1,10 @@
 use Rattle.std.proofs.Common.{rules, ◌≡◌, List, [], ◌∷◌, All, refl, ap, sym, ◌∙◌}
 use Rattle.std.proofs.lemmas.List.Elements.{All-nil, All-cons, All-head, All-tail, All-rest, All-same}
 use Rattle.std.specs.Vec.Iter.{into_iter_items}
+use Rattle.std.proofs.lemmas.List.{nil_from_length}
 use Rattle.lw_latch.specs.DeviceEnds.{FiresOnlyWhatItBegan}
 use Rattle.lw_device.specs.Rows.{Row, latches, gathered_into}
 use Rattle.lw_device.proofs.Joining.{latches_both}
-use Rattle.lw_device.proofs.Pairing.{nothing_left}
 use Rattle.lw_device.proofs.settling.join_rows.Goals as goal
 
 pub loop-row-init : goal.loop-row-init
@@ -38,6 +38,6 @@ pub returns-clause-only_who_began : goal.returns-clause-only_who_began
 returns-clause-only_who_began c = λ fires.
     let Fires = λ (r : Row). All FiresOnlyWhatItBegan r.seats in
     let whole = c.loop-row.whole in
-    let none : into_iter_items c.loop-row.row-iterator ≡ [] = nothing_left (into_iter_items c.loop-row.row-iterator) (search rules) in
+    let none : into_iter_items c.loop-row.row-iterator ≡ [] = nil_from_length (into_iter_items c.loop-row.row-iterator) (search rules) in
     let all : c.args.rows.items ≡ c.in-Some.whole ∷ into_iter_items c.into_iter-row-iterator.result = search rules in
     All-same Fires _ _ all (c.loop-row.invariant.2 (All-same Fires (whole ∷ into_iter_items c.loop-row.row-iterator) (whole ∷ []) (ap (λ (l : List Row). whole ∷ l) none) (All-cons Fires whole [] fires (All-nil Fires))))

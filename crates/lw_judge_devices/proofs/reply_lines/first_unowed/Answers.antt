@@ -1,9 +1,10 @@
 use Rattle.std.proofs.Common.{length, drop, nat_lt, arith, sym, ap, ◌∙◌}
 use Rattle.std.proofs.lemmas.List.{drop_all}
+use Rattle.lw_base.proofs.Lists.{then_some_is}
 use Rattle.lw_model.specs.Same.{is_same_reply}
 use Rattle.lw_judge_threads.specs.Firsts.{first_unlike}
 use Rattle.lw_judge_devices.specs.OwedLines.{replies_in}
-use Rattle.lw_judge_devices.proofs.RepliesLines.{none_wanted, then_some_is}
+use Rattle.lw_judge_devices.proofs.RepliesLines.{none_wanted}
 use Rattle.lw_judge_devices.proofs.reply_lines.first_unowed.Goals as goal
 
 pub returns : goal.returns

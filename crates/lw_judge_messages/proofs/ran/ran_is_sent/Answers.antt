@@ -1,8 +1,8 @@
-use Rattle.std.proofs.Common.{◌≡◌, ◌<◌, ◌+◌, ◌&&◌, ℕ, Bool, true, false, cond, not, [], slice_get, Some, None, IfSome, length, get_or, refl, sym, subst, ap, ap₂, ◌∙◌, zero-add, arith}
-use Rattle.std.specs.Bool.{then_some}
+use Rattle.std.proofs.Common.{◌≡◌, ◌<◌, ◌+◌, ◌&&◌, Bool, true, false, not, [], slice_get, Some, IfSome, length, get_or, refl, sym, subst, ap, ap₂, ◌∙◌, zero-add, arith}
 use Rattle.std.specs.List.{list_all}
 use Rattle.std.proofs.lemmas.Bool.{true≢false}
 use Rattle.std.proofs.lemmas.Option.{slice_get-get_or}
+use Rattle.lw_base.proofs.Lists.{then_some_is}
 use Rattle.lw_model.specs.Threads.{thread_count, ran_of}
 use Rattle.lw_model.specs.Lines.{thread_line}
 use Rattle.lw_model.specs.Verdict.{lacks_none}
@@ -42,10 +42,6 @@ lacks_second : (e k : Bool) → not e ≡ false → not k ≡ not (e && k)
 lacks_second true k h = refl
 lacks_second false k h = absurd (true≢false h)
 
-chosen : (b : Bool) (k : ℕ) → then_some b k ≡ cond b (Some k) None
-chosen true k = refl
-chosen false k = refl
-
 pub loop-thread-preserved : goal.loop-thread-preserved
 loop-thread-preserved c = λ runners sends.
     let r = c.args.of.now in
@@ -68,7 +64,7 @@ loop-thread-preserved c = λ runners sends.
           ∙ lacks_second (runs_enough x (thread_count r.script) t (ran_of r t)) (runs_tokens r t tokens) (sym enough ∙ b.if-branch.false) ∙ ap not none
     ] in
     c.lesser-first.ensures
-    ∙ ap₂ lesser (c.loop-thread.invariant runners sends) (c.lesser.ensures ∙ ap₂ lesser (c.then_some.ensures ∙ chosen c.if-branch.lacks l.thread) (c.at_line-unfit.ensures ∙ ap (at_line l.ran) place) ∙ line-is r x sends t there d l c.if-branch.lacks at stands lacks)
+    ∙ ap₂ lesser (c.loop-thread.invariant runners sends) (c.lesser.ensures ∙ ap₂ lesser (c.then_some.ensures ∙ then_some_is c.if-branch.lacks l.thread) (c.at_line-unfit.ensures ∙ ap (at_line l.ran) place) ∙ line-is r x sends t there d l c.if-branch.lacks at stands lacks)
     ∙ sym (least_threads (tests_of r) t)
 
 pub returns : goal.returns

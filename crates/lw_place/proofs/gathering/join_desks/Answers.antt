@@ -1,10 +1,11 @@
 use Rattle.std.proofs.Common.{rules, ◌≡◌, List, [], ◌∷◌, ◌++◌, length, refl, ap, ◌∙◌, arith, length-append}
 use Rattle.std.proofs.lemmas.List.Elements.{All-rest}
 use Rattle.std.specs.Vec.Iter.{into_iter_items}
+use Rattle.std.proofs.lemmas.List.{nil_from_length}
 use Rattle.lw_place.specs.declared.table.Stand.{Stand}
 use Rattle.lw_place.specs.PlaceSeats.{BundleEnd, DeskEnd, places_of, all_retired, all_halted, most_seen}
 use Rattle.lw_base.proofs.Totals.{total_snoc}
-use Rattle.lw_place.proofs.Gathers.{most_snoc, nil_from_length}
+use Rattle.lw_place.proofs.Gathers.{most_snoc}
 use Rattle.lw_place.proofs.gathering.join_desks.Goals as goal
 
 pub loop-desk-preserved : goal.loop-desk-preserved

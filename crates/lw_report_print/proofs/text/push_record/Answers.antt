@@ -1,11 +1,12 @@
 use Rattle.std.proofs.Common.{◌∙◌, ◌∷◌, [], ◌++◌, codes, decimal, map, flat_map, ap, subst}
 use Rattle.std.specs.List.{AllByRecursion, enumerate_from}
 use Rattle.std.proofs.lemmas.Result.{on_ok_weaker}
+use Rattle.lw_base.proofs.Lists.{none_is}
 use Rattle.lw_model.specs.ReportText.{line, count_of, head_lines, image_line, client_lines, thread_lines, device_line, clock_lines, round_lines}
 use Rattle.lw_model.specs.Ranges.{ClientFits, DeviceFits, ImageFits, RoundFits, ThreadFits}
 use Rattle.lw_model.specs.ScriptRules.{rule_broken}
 use Rattle.lw_model.proofs.Printed.{parts}
-use Rattle.lw_model.proofs.Rules.{none_is, counts_fit}
+use Rattle.lw_model.proofs.Rules.{counts_fit}
 use Rattle.lw_report_print.proofs.TextLemmas.{then, then_of, as_lines, more}
 use Rattle.lw_report_print.proofs.text.push_record.Goals as goal
 

@@ -1,12 +1,12 @@
 use Rattle.std.proofs.Common.{rules, ◌≡◌, ℕ, ◌+◌, ◌-◌, ◌++◌, List, [], length, map, reverse, take, drop, ◌∙◌, ap, sym, subst, arith, length-append}
-use Rattle.std.proofs.lemmas.List.{append-nil, length-map}
+use Rattle.std.proofs.lemmas.List.{append-nil, length-map, nil_from_length}
 use Rattle.lw_ring.specs.declared.queue.PassView.{PassView}
 use Rattle.lw_base.specs.Letters.{total_length, sent_by, list_at}
 use Rattle.lw_ring.specs.Ends.{Receiver, ReceiverView, Receiving, latch_id, closed_of, tries_of, seen_of, found_of}
 use Rattle.lw_ring.proofs.Ending.{ending, all_in}
 use Rattle.lw_ring.specs.Queue.{AllFit, TakenOff}
 use Rattle.lw_ring.proofs.Handing.{hands_out}
-use Rattle.lw_ring.proofs.Rows.{receiving_more, none_left}
+use Rattle.lw_ring.proofs.Rows.{receiving_more}
 use Rattle.lw_ring.proofs.settling.empty.Goals as goal
 
 pub learn-requires : goal.learn-requires
@@ -203,4 +203,4 @@ returns-clause-closed g c =
     let mapped = length-map left letter in
     let both = length-append (drop n v.got) out.order.more in
     let here = ap length r.in_hand ∙ length-map before letter in
-    (none_left c.args.recv.hand (omega arith), none_left left no_more))
+    (nil_from_length c.args.recv.hand (omega arith), nil_from_length left no_more))

@@ -1,6 +1,6 @@
 use Rattle.std.proofs.Common.{◌∙◌}
 use Rattle.serde_json.specs.View.{view}
-use Rattle.lw_script.proofs.RuleLemmas.{image_count-values}
+use Rattle.lw_script.proofs.ValueRules.{image_count-values}
 use Rattle.lw_script.proofs.read.has_image_count.Goals as goal
 
 pub returns : goal.returns

@@ -2,7 +2,7 @@ use Rattle.std.proofs.Common.{◌≡◌, ◌≢◌, ◌∙◌, sym, subst, Some,
 use Rattle.serde_json.specs.View.{view}
 use Rattle.lw_model.specs.declared.refusal.ScriptRefusal.TheVariants.{NoMemory}
 use Rattle.lw_model.specs.ScriptShape.{script_in}
-use Rattle.lw_script.proofs.RuleLemmas.{value_refusal-shaped, value_refusal-unshaped, image_count-broken}
+use Rattle.lw_script.proofs.ValueRules.{value_refusal-shaped, value_refusal-unshaped, image_count-broken}
 use Rattle.lw_script.proofs.read.read_value.Goals as goal
 
 pub returns-in-Some-clause-refused : goal.returns-in-Some-clause-refused

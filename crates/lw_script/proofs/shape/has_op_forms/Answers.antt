@@ -1,8 +1,9 @@
 use Rattle.std.proofs.Common.{◌∙◌, sym, codes, is_some, []}
 use Rattle.serde_json.specs.View.{view}
 use Rattle.lw_model.specs.ScriptShape.{op_in, ops_in, clients_in, list_at}
+use Rattle.lw_model.proofs.Passing.{list_all-flat_map}
 use Rattle.lw_script.specs.Shape.{has_op_forms_in}
-use Rattle.lw_script.proofs.Views.{all-values, list_all-flat_map}
+use Rattle.lw_script.proofs.Views.{all-values}
 use Rattle.lw_script.proofs.shape.has_op_forms.Goals as goal
 
 pub returns-in-Some : goal.returns-in-Some

@@ -1,9 +1,10 @@
 use Rattle.std.proofs.Common.{rules, ◌≡◌, ℕ, suc, ◌+◌, List, [], ◌∷◌, All, drop, slice_index_or, slice_set, ap, sym, subst, ◌∙◌, arith}
 use Rattle.std.proofs.lemmas.List.Elements.{All-nil, All-cons, All-same}
 use Rattle.std.specs.Vec.Iter.{into_iter_items}
+use Rattle.std.proofs.lemmas.List.{nil_from_length}
 use Rattle.lw_latch.specs.DeviceEnds.{FiresOnlyWhatItBegan, SeatEnd, both_ends}
 use Rattle.lw_device.specs.Rows.{Row, both_rows, both_seats}
-use Rattle.lw_device.proofs.Pairing.{both_from, both_step, both_end, Matches, match_here, match_next, nothing_left, drop_step, none_to_join}
+use Rattle.lw_device.proofs.Pairing.{both_from, both_step, both_end, Matches, match_here, match_next, drop_step, none_to_join}
 use Rattle.lw_device.proofs.row.DeviceRow.gather.Goals as goal
 
 pub gather-requires : goal.gather-requires
@@ -40,7 +41,7 @@ returns-clause-both c =
     let i = c.loop-seat.invariant in
     let d = c.loop-seat.device in
     let es = c.loop-seat.self-inside.seats.items in
-    let none : into_iter_items c.loop-seat.seat-iterator ≡ [] = nothing_left (into_iter_items c.loop-seat.seat-iterator) (search rules) in
+    let none : into_iter_items c.loop-seat.seat-iterator ≡ [] = nil_from_length (into_iter_items c.loop-seat.seat-iterator) (search rules) in
     let all : into_iter_items c.into_iter-seat-iterator.result ≡ c.other.inside.seats.items = search rules in
     let joined : es ≡ both_seats c.self.inside.seats.items c.other.inside.seats.items =
     sym (both_end d es) ∙ ap (λ (l : List SeatEnd). both_from d es l) (sym none) ∙ i.2 ∙ ap (λ (l : List SeatEnd). both_seats c.self.inside.seats.items l) all in
@@ -51,7 +52,7 @@ returns-clause-only_who_began c =
     let i = c.loop-seat.invariant in
     let d = c.loop-seat.device in
     let es = c.loop-seat.self-inside.seats.items in
-    let none : into_iter_items c.loop-seat.seat-iterator ≡ [] = nothing_left (into_iter_items c.loop-seat.seat-iterator) (search rules) in
+    let none : into_iter_items c.loop-seat.seat-iterator ≡ [] = nil_from_length (into_iter_items c.loop-seat.seat-iterator) (search rules) in
     let all : c.other.inside.seats.items ≡ into_iter_items c.into_iter-seat-iterator.result = search rules in
     let left = subst (λ (l : List SeatEnd). Matches d es l) none i.1 in
     let others = i.4 (All-same FiresOnlyWhatItBegan _ [] none (All-nil FiresOnlyWhatItBegan)) in (

@@ -1,54 +1,25 @@
-use Rattle.std.proofs.Common.{◌<◌, ◌^◌, length, get_or, reverse, take, sym, ap, ap₂, subst, ◌∙◌, arith}
-use Rattle.std.proofs.lemmas.List.{length-take-le, length-reverse}
+use Rattle.std.proofs.Common.{sym, subst, ◌∙◌, arith}
 use Rattle.std.proofs.lemmas.Option.{slice_get_within}
 use Rattle.std.specs.List.{AllByRecursion}
-use Rattle.lw_model.specs.Verdict.{least_failing, step_test}
+use Rattle.lw_model.specs.OwnOrder.{own_order}
 use Rattle.lw_model.proofs.Printed.{parts}
-use Rattle.lw_judge_threads.specs.Firsts.{lesser}
-use Rattle.lw_judge_threads.specs.Folded.{folded}
 use Rattle.lw_judge_threads.specs.LinesOf.{IsPlaced}
-use Rattle.lw_judge.specs.Walked.{IsGoingAt, IsWalkedTo}
-use Rattle.lw_judge_answers.specs.AnsweringAt.{answers_of}
-use Rattle.lw_judge_threads.proofs.Counts.{past_more}
+use Rattle.lw_judge_threads.proofs.Threads.{listed}
 use Rattle.lw_judge_messages.proofs.ThreadCounts.{few_threads}
-use Rattle.lw_judge_threads.proofs.Threads.{least_threads}
-use Rattle.lw_judge.proofs.WalkSteps.{all_at, no_step, placed, whole}
-use Rattle.lw_judge_devices.proofs.DevicesSteps as devices
-use Rattle.lw_judge_messages.proofs.VisitThreads as visits
+use Rattle.lw_judge.proofs.WalkSteps.{placed}
 use Rattle.lw_judge.proofs.walk.Walk.go_through.Goals as goal
 
-pub step-requires : goal.step-requires
-step-requires c = omega (arith, slice_get_within c.args.of.now.threads c.args.thread c.args.told.now c.requires.told, (parts c.args.of.now).threads, few_threads c.args.of.now)
+pub go_along-requires-clause-within : goal.go_along-requires-clause-within
+go_along-requires-clause-within c = omega (arith, slice_get_within c.args.of.now.threads c.args.thread c.args.told.now c.requires.told, (parts c.args.of.now).threads, few_threads c.args.of.now)
 
-pub loop-step-preserved : goal.loop-step-preserved
-loop-step-preserved c =
+pub go_along-requires-clause-few : goal.go_along-requires-clause-few
+go_along-requires-clause-few c = omega (arith, c.as_slice.type_inv.1)
+
+pub go_along-requires-clause-steps : goal.go_along-requires-clause-steps
+go_along-requires-clause-steps c = c.as_slice.ensures.value ∙ c.in_ok-steps.ensures ∙ sym (listed own_order c.args.of.now c.args.thread c.args.told.now c.requires.told)
+
+pub go_along-requires-clause-placed : goal.go_along-requires-clause-placed
+go_along-requires-clause-placed c =
     let r = c.args.of.now in
     let t = c.args.thread in
-    let i = c.loop-step.step-index in
-    let xs = c.as_slice-step-items.result.now in
-    let x = get_or xs i no_step in
-    let more = past_more xs i no_step c.loop-step-test.true in
-    let few : length (reverse (take i xs)) < 2 ^ 63 = omega (arith, length-reverse (take i xs), length-take-le i xs (omega (arith, c.loop-step-test.true)), c.loop-step-test.true, c.as_slice-step-items.type_inv.1) in
-    let here : IsPlaced r t x = all_at (IsPlaced r t) xs i no_step (subst (AllByRecursion (IsPlaced r t)) (sym (c.as_slice-step-items.ensures.value ∙ c.in_ok-steps.ensures)) (placed r t c.args.told.now c.requires.told)) c.loop-step-test.true in
-    let step = c.in_ok-step.ensures (reverse (take i xs)) few c.requires.lines c.requires.runners here c.loop-step.invariant.going c.loop-step.invariant.walked in
-    record {
-      going = subst (λ past. IsGoingAt r t past c.step.new.going) (sym more) step.0;
-      walked = subst (λ past. IsWalkedTo r t past c.step.new.self) (sym more) step.1;
-    }
-
-pub returns : goal.returns
-returns c =
-    let r = c.args.of.now in
-    let t = c.args.thread in
-    let steps = c.as_slice-step-items.ensures.value ∙ c.in_ok-steps.ensures in
-    let all = whole r t c.args.told.now c.as_slice-step-items.result.now c.loop-step.step-index c.requires.told steps c.loop-step-test.false in
-    let walked = c.loop-step.invariant.walked in
-    let answering = c.loop-step.invariant.going.answering in
-    record {
-      sends = c.in_ok-finish.ensures (reverse (take c.loop-step.step-index c.as_slice-step-items.result.now)) all walked.sends;
-      devices = devices.next_thread r t c.loop-step.self.devices (subst (λ past. Rattle.lw_judge_devices.specs.DevicesTold.AreDevicesAt r t past c.loop-step.self.devices) all walked.devices);
-      marks = visits.next_thread r t c.loop-step.self.marks (subst (λ past. Rattle.lw_judge_messages.specs.MarksAt.AreMarksAt r t past c.loop-step.self.marks) all walked.marks);
-      answers = c.lesser-self.ensures
-          ∙ ap₂ lesser walked.answers (c.answers_of_thread-least.ensures c.requires.lines (c.least.ensures r t (reverse (take c.loop-step.step-index c.as_slice-step-items.result.now)) answering ∙ ap (λ past. least_failing (folded (step_test r t) past)) all))
-          ∙ sym (least_threads (answers_of r) t);
-    }
+    subst (AllByRecursion (IsPlaced r t)) (sym (c.as_slice.ensures.value ∙ c.in_ok-steps.ensures)) (placed r t c.args.told.now c.requires.told)

@@ -1,7 +1,7 @@
 use Rattle.std.proofs.Common.{◌==◌, ◌&&◌, true, false, ap, ◌∙◌}
 use Rattle.lw_base.specs.declared.message.What.TheVariants as what
+use Rattle.lw_base.proofs.Bools.{and_true}
 use Rattle.lw_model.specs.Answers.{is_done_of}
-use Rattle.lw_judge_answers.proofs.Finishing.{and_true}
 use Rattle.lw_judge_answers.proofs.dones.Dones.step.Goals as goal
 
 pub returns-in-Done : goal.returns-in-Done

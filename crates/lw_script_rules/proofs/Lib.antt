@@ -1,0 +1,3 @@
+pub mod FirstFailing
+pub mod DistinctNames
+pub mod RuleLemmas

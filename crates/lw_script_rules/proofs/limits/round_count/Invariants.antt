@@ -1,0 +1,7 @@
+use Rattle.std.proofs.Common.{◌≡◌, take, min, count_by}
+use Rattle.std.specs.List.{flat_map}
+use Rattle.lw_model.specs.ScriptRules.{goes_round}
+use Rattle.lw_script_rules.proofs.limits.round_count.Given as goal
+
+abbrev pub invariant-loop-client : goal.invariant-loop-client
+invariant-loop-client l = l.count ≡ min (count_by goes_round (flat_map (λ c. c.ops) (take l.client-index l.script.clients))) 18446744073709551615
