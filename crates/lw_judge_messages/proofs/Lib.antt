@@ -8,6 +8,7 @@ mod SeenTests
 mod SendSteps
 mod SenderCounts
 mod Sending
+pub mod ThreadCounts
 mod TokenLemmas
 mod VisitMarks
 mod VisitResults

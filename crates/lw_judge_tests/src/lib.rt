@@ -21,8 +21,6 @@ mod replies;
 #[cfg(test)]
 mod reports;
 #[cfg(test)]
-mod rounds;
-#[cfg(test)]
 mod seen;
 #[cfg(test)]
 mod sent;

@@ -3,5 +3,4 @@ pub mod LineLemmas
 pub mod Local
 pub mod NamedLines
 pub mod ReportLocal
-pub mod RoundsLocal
-mod RunReports
+pub mod RunReports

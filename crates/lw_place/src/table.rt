@@ -15,26 +15,23 @@ pub(crate) const FIRST_THREAD: usize = 2;
 
 /// A light thread, by its number from 0, and where it stands. Contracts alone see it.
 pub struct Stand {
-    /// The thread's number.
     pub thread: u32,
-    /// Where it stands.
     pub place: Place,
 }
 
 /// What a table of places is made for. It is for no caller.
 #[derive(Drop)]
 pub struct Homes {
-    /// Where each thread starts, by its number.
-    pub of: Vec<Place>,
+    /// In which reactor's list each thread starts, by its number.
+    pub of: Vec<u32>,
     /// How many reactors there are.
     pub reactors: u32,
 }
 
 /// What a seat knows. Contracts alone see it: no caller makes one.
 pub struct PlaceView {
-    /// How many threads there are, 0 for a seat that was joined to another.
+    /// How many threads and reactors there are. Both are 0 for a seat that was joined to another.
     pub threads: u64,
-    /// How many reactors there are, 0 for a seat that was joined to another.
     pub reactors: u64,
     /// The threads that it stands for, and where they stand.
     pub stands: LinkedList<Stand>,
@@ -46,9 +43,8 @@ pub struct PlaceView {
     pub halted: u64,
     /// How often they looked at a word.
     pub looks: u64,
-    /// How many retired threads the last look at their count found.
+    /// How many retired threads the last look at that count found, and 1 where the last look found the run halted.
     pub done_seen: u64,
-    /// 1 where the last look at the halt word found the run halted, and else 0.
     pub halt_seen: u64,
     /// At which thread they last looked, and what they found.
     pub found: Option<Stand>,
@@ -77,16 +73,6 @@ impl Play<(), PlaceView> for Moving {
     ghost then = { Moves };
 }
 
-/// A thread that is held starts: it goes to the list of its reactor.
-pub struct Starting;
-
-impl Play<(), PlaceView> for Starting {
-    ghost use Rattle.lw_place.specs.PlaceTable.{Begins};
-
-    ghost then = { Begins };
-}
-
-/// One thread more is counted as retired.
 pub struct Retiring;
 
 impl Play<(), PlaceView> for Retiring {
@@ -95,7 +81,6 @@ impl Play<(), PlaceView> for Retiring {
     ghost then = { Retires };
 }
 
-/// The run is halted.
 pub struct Halting;
 
 impl Play<(), PlaceView> for Halting {
@@ -131,7 +116,7 @@ impl Play<(), PlaceView> for Looking {
     ghost then = { Looks };
 }
 
-/// A load of the count of retired threads by the seat that stands for all desks, at the end of the run.
+/// The three loads by a seat that stands for all threads or all desks, at the end of the run.
 pub struct LearningDone;
 
 impl Play<(), PlaceView> for LearningDone {
@@ -140,7 +125,6 @@ impl Play<(), PlaceView> for LearningDone {
     ghost then = { LearnsDone };
 }
 
-/// A load of the halt word by the same seat.
 pub struct LearningHalt;
 
 impl Play<(), PlaceView> for LearningHalt {
@@ -149,7 +133,6 @@ impl Play<(), PlaceView> for LearningHalt {
     ghost then = { LearnsHalt };
 }
 
-/// A load of a thread's word by a seat that stands for all threads.
 pub struct Learning;
 
 impl Play<(), PlaceView> for Learning {

@@ -1,11 +1,11 @@
 //! A light thread's seat.
-ghost use Rattle.std.specs.Prelude.{◌≡◌, ℕ, ◌<◌};
+ghost use Rattle.std.specs.Prelude.{◌≡◌, ◌≢◌, ℕ, ◌<◌};
 ghost use Rattle.lw_place.specs.PlaceWord.{IsBelow};
-ghost use Rattle.lw_place.specs.PlaceSeats.{IsList, IsEvent, IsHeld, MayLeave, thread_view, stand};
+ghost use Rattle.lw_place.specs.PlaceSeats.{IsList, IsEvent, thread_view, stand};
 
 use crate::bundle::Bundle;
 use crate::place::Place;
-use crate::table::{FIRST_THREAD, Moving, PlaceTable, PlaceView, Starting};
+use crate::table::{FIRST_THREAD, Moving, PlaceTable, PlaceView};
 use atomic_table::Seat;
 use std::alloc::Global;
 use std::marker::Model;
@@ -36,10 +36,9 @@ impl Model for ThreadSeat {
 }
 
 impl ThreadSeat {
-    /// The thread leaves for a reactor, one of those of its places: it is in an event to it from now on. It has neither ended,
-    /// nor is it held.
+    /// The thread leaves for a reactor: it is in an event to it from now on.
     pub fn leave_for(&mut self, to: u32)
-        requires place { MayLeave self.old.place }
+        requires place { self.old.place ≢ Place.Ended }
         requires range { to < self.old.places.reactors }
         ensures { self.new ≡ record self.old { place = Place.Event to } }
     {
@@ -58,18 +57,6 @@ impl ThreadSeat {
         }
     }
 
-    /// The thread, which a reactor holds, starts: it is in that reactor's list from now on.
-    pub fn start(&mut self)
-        requires { IsHeld self.old.place }
-        ensures { (reactor : ℕ) → self.old.place ≡ Place.Held reactor →
-            self.new ≡ record self.old { place = Place.List reactor } }
-    {
-        match self.place {
-            Place::Held(reactor) => self.begin(reactor),
-            _ => unreachable!(),
-        }
-    }
-
     /// The thread, which is in a reactor's list, has ended.
     pub fn end(&mut self)
         requires { IsList self.old.place }
@@ -80,16 +67,14 @@ impl ThreadSeat {
 
     /// Where the thread stands, which is what its word says.
     pub fn place(&self) -> Place
-        ensures place { result ≡ self.now.place }
-        ensures below { IsBelow self.now.places.reactors result }
+        ensures { result ≡ self.now.place }
     {
         self.place
     }
 
-    /// The thread's number, one of those of its places.
+    /// The thread's number.
     pub fn thread(&self) -> u32
-        ensures thread { result ≡ self.now.thread }
-        ensures below { result < self.now.places.threads }
+        ensures { result ≡ self.now.thread }
     {
         self.thread
     }
@@ -103,19 +88,6 @@ impl ThreadSeat {
         self.table
             .shared
             .store::<Moving>(&mut self.seat, word, place.word());
-        self.place = place;
-    }
-
-    // One store of the word of a thread that this reactor holds.
-    fn begin(&mut self, reactor: u32)
-        requires { self.old.place ≡ Place.Held reactor }
-        ensures { self.new ≡ record self.old { place = Place.List reactor } }
-    {
-        let word = self.thread as usize + FIRST_THREAD;
-        let place = Place::List(reactor);
-        self.table
-            .shared
-            .store::<Starting>(&mut self.seat, word, place.word());
         self.place = place;
     }
 

@@ -1,5 +1,4 @@
 pub mod Machine
-pub mod Rounds
 pub mod Report
 pub mod Parsed
 pub mod Ranges

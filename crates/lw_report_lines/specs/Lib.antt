@@ -1,4 +1,3 @@
 pub mod LineParts
 pub mod LineKinds
 pub mod Once
-pub mod MoveLines

@@ -12,6 +12,7 @@ use std::alloc::Global;
 #[derive(Copy, Clone, Drop)]
 pub enum FixedLine {
     Title,
+    StaticScheduler,
     End,
 }
 
@@ -21,6 +22,7 @@ impl FixedLine {
     {
         match self {
             FixedLine::Title => "lightrun report 1",
+            FixedLine::StaticScheduler => "scheduler static",
             FixedLine::End => "end",
         }
     }

@@ -1,5 +1,0 @@
-mod Differing
-mod Homes
-mod KnownMoves
-mod RoundSteps
-mod Rows

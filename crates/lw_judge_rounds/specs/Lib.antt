@@ -1,3 +1,0 @@
-pub mod Differences
-pub mod OrdersOf
-pub mod RoundsAt

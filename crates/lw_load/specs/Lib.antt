@@ -1,2 +1,0 @@
-pub mod LoadRule
-pub mod LoadEnds

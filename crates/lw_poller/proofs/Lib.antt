@@ -1,5 +1,0 @@
-pub mod Counts
-pub mod Keeping
-pub mod Queueing
-pub mod OnePoll
-pub mod Pausing

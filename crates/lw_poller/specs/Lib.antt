@@ -1,5 +1,0 @@
-pub mod Numbers
-pub mod Pollers
-pub mod LocalDue
-pub mod Changes
-pub mod OnePoll

@@ -1,5 +1,0 @@
-pub mod Loads
-pub mod Tallies
-pub mod Leasts
-pub mod Looks
-pub mod PlanSteps
