@@ -5,3 +5,5 @@ pub mod Totals
 pub mod Words
 pub mod TextLines
 pub mod Limits
+pub mod Masks
+pub mod Plan

@@ -9,12 +9,13 @@ use Rattle.lw_model.specs.declared.record.ThreadRecord.{ThreadRecord}
 use Rattle.lw_base.specs.declared.moves.Hop.{Hop}
 use Rattle.lw_model.specs.Threads.{of_thread, ran_of, threads, thread_count}
 use Rattle.lw_model.specs.Lines.{thread_line, hop_line, ran_line}
-use Rattle.lw_model.specs.Moves.{home_of, hops_of, hop_fits, is_above_last, number_fits}
+use Rattle.lw_model.specs.Moves.{home_of, first_reactor, hops_of, hop_fits, is_above_last, number_fits}
 use Rattle.lw_model.specs.Verdict.{Test, least_failing, each_line}
 use Rattle.lw_judge_threads.specs.declared.lines.ThreadLines.{ThreadLines}
 use Rattle.lw_judge_threads.specs.Firsts.{first_unfit, at_line, lesser}
 use Rattle.lw_judge_threads.specs.LinesOf.{StandsAt, AreThreadLines}
 use Rattle.lw_model.proofs.Printed.{parts}
+use Rattle.lw_model.proofs.Homes.{first_reactor_is}
 use Rattle.lw_judge_threads.proofs.Leasts.{least-cons, least-each_line, least_push}
 
 -- the tests of the threads below n, and those of thread n
@@ -83,16 +84,17 @@ first_hop r t none (h ∷ hs) = ap (λ b. cond b (first_unfit (hop_fits r t) (0 
 
 pub homes_of : (r : Record) (t : ℕ) (x : ThreadRecord) (l : ThreadLines) → slice_get r.threads t ≡ Some x → StandsAt r t l → r.rounds ≡ []
     → lesser (cond (x.home == t % r.reactors) None (Some l.thread)) (cond (length x.hops == 0) None (Some l.hops))
-    ≡ least_failing ((thread_line r t, home_of r t == t % r.reactors) ∷ each_line (hop_line r t) (hop_fits r t) (hops_of r t))
+    ≡ least_failing ((thread_line r t, home_of r t == first_reactor r t) ∷ each_line (hop_line r t) (hop_fits r t) (hops_of r t))
 homes_of r t x l at stands none =
     ap₂ lesser first hops
-    ∙ sym (least-cons (thread_line r t) (home_of r t == t % r.reactors) (each_line (hop_line r t) (hop_fits r t) (hops_of r t)))
+    ∙ sym (least-cons (thread_line r t) (home_of r t == first_reactor r t) (each_line (hop_line r t) (hop_fits r t) (hops_of r t)))
   where
     home : home_of r t ≡ x.home
     home = ap (λ o. unwrap_or (option_map (λ (x : ThreadRecord). x.home) o) 0) at
 
-    first : cond (x.home == t % r.reactors) None (Some l.thread) ≡ cond (home_of r t == t % r.reactors) None (Some (thread_line r t))
+    first : cond (x.home == t % r.reactors) None (Some l.thread) ≡ cond (home_of r t == first_reactor r t) None (Some (thread_line r t))
     first = ap₂ (λ h n. cond (h == t % r.reactors) None (Some n)) (sym home) stands.thread
+        ∙ ap (λ f. cond (home_of r t == f) None (Some (thread_line r t))) (sym (first_reactor_is r t))
 
     place : (b : Bool) → ◌≡◌ {A = Option ℕ} (at_line (hop_line r t 0) (cond b None (Some 0))) (cond b None (Some (hop_line r t 0)))
     place true = refl
@@ -142,7 +144,7 @@ numbers_within r t x l o is found = subst (λ q. IfSome q (λ i. l.ran + i < 2 ^
 
 -- the tests of homes and hops that a thread has
 abbrev pub home_tests : Record → ℕ → List Test
-home_tests r t = (thread_line r t, home_of r t == t % r.reactors) ∷ each_line (hop_line r t) (hop_fits r t) (hops_of r t)
+home_tests r t = (thread_line r t, home_of r t == first_reactor r t) ∷ each_line (hop_line r t) (hop_fits r t) (hops_of r t)
 
 pub homes_more : (r : Record) (t : ℕ) (x : ThreadRecord) (l : ThreadLines) (least next found : Option ℕ) → Read r t x l → r.rounds ≡ []
     → least ≡ least_failing (flat_map (home_tests r) (range_with_len 0 t))

@@ -1,5 +1,5 @@
 -- The line that a verdict names stands in the record's text, and is of a kind at which its rule fails.
-use Rattle.std.proofs.Common.{◌≡◌, ℕ, zero, suc, ◌+◌, ◌%◌, ◌<◌, ◌≤◌, ◌==◌, nat_le, Bool, true, false, cond, not, ◌&&◌, ◌||◌, inl, inr, List, [], ◌∷◌, ◌++◌, codes, decimal, map, filter, filter_map, flat_map, length, slice_get, unwrap_or, option_map, bytes_eq, Option, Some, None, refl, sym, ap, subst, ◌∙◌, arith}
+use Rattle.std.proofs.Common.{◌≡◌, ℕ, zero, suc, ◌+◌, ◌<◌, ◌≤◌, ◌==◌, nat_le, Bool, true, false, cond, not, ◌&&◌, ◌||◌, inl, inr, List, [], ◌∷◌, ◌++◌, codes, decimal, map, filter, filter_map, flat_map, length, slice_get, unwrap_or, option_map, bytes_eq, Option, Some, None, refl, sym, ap, subst, ◌∙◌, arith}
 use Rattle.std.specs.List.{list_all, list_any, AllByRecursion, enumerate_from, range_with_len}
 use Rattle.std.proofs.lemmas.Bool.{eqb-true}
 use Rattle.std.proofs.lemmas.Option.{slice_get_within}
@@ -17,9 +17,9 @@ use Rattle.lw_model.specs.Answers.{wanted, at_fits, did_ats, called_ats, called_
 use Rattle.lw_model.specs.Devices.{callback_fits, refusal_fits}
 use Rattle.lw_model.specs.Lawful.{is_first_run, replied_ops, replies_of, owed, seen_by, seen_of}
 use Rattle.lw_model.specs.Lines as number
-use Rattle.lw_model.specs.Moves.{home_of, hops_of, hop_fits, number_fits}
+use Rattle.lw_model.specs.Moves.{home_of, first_reactor, hops_of, hop_fits, number_fits}
 use Rattle.lw_model.specs.OwnOrder.{own_order, with_past, history}
-use Rattle.lw_model.specs.Plan.{plan}
+use Rattle.lw_base.specs.Plan.{free_plan}
 use Rattle.lw_model.specs.ReportText as text
 use Rattle.lw_model.specs.Rounds.{row_fits}
 use Rattle.lw_model.specs.Same.{is_same_reply, is_same_seen, is_same_order}
@@ -126,7 +126,7 @@ module _ (r : Record) where
   thread_line words known t x e = record { word = codes "thread"; rest = decimal t ∷ text.role_word x.role ∷ decimal x.home ∷ []; known = known; stands = stand.thread t x e }
 
   homes_named : OfLines (Named 1) (homes_and_hops r)
-  homes_named = of_numbers (Named 1) (λ t. (number.thread_line r t, home_of r t == t % r.reactors) ∷ each_line (number.hop_line r t) (hop_fits r t) (hops_of r t)) 0 (thread_count r.script)
+  homes_named = of_numbers (Named 1) (λ t. (number.thread_line r t, home_of r t == first_reactor r t) ∷ each_line (number.hop_line r t) (hop_fits r t) (hops_of r t)) 0 (thread_count r.script)
       (λ t low high.
       let x = thread_there t high in (
         thread_line (words_of 1) refl t x.0 x.1,
@@ -256,12 +256,12 @@ module _ (r : Record) where
     round_named j x past e =
         let line = number.round_line r j in
         let rows = each_line (λ i. line + 1 + i) (row_fits r) x.rows in
-        let orders = against is_same_order (line + number.round_size x) (line + 1 + length x.rows) (map (λ o. Some o) (plan standard r.reactors x.rows)) x.orders in (
+        let orders = against is_same_order (line + number.round_size x) (line + 1 + length x.rows) (map (λ o. Some o) (free_plan standard r.reactors x.rows)) x.orders in (
           round_line j x e,
           both (Named 8) rows orders
               (of_each_line (Named 8) (λ i. line + 1 + i) (row_fits r) x.rows
               (λ i w h. record { word = codes "row"; rest = decimal w.thread ∷ decimal w.reactor ∷ decimal w.busy ∷ decimal w.idle ∷ []; known = refl; stands = (stand.rounds s is j x e).rows i w h }))
-              (of_against (Named 8) is_same_order (line + number.round_size x) (line + 1 + length x.rows) (map (λ o. Some o) (plan standard r.reactors x.rows)) x.orders (line_behind j x e)
+              (of_against (Named 8) is_same_order (line + number.round_size x) (line + 1 + length x.rows) (map (λ o. Some o) (free_plan standard r.reactors x.rows)) x.orders (line_behind j x e)
               (λ i o h. record { word = codes "order"; rest = decimal o.thread ∷ decimal o.to ∷ []; known = refl; stands = (stand.rounds s is j x e).orders i o h })),
         )
 

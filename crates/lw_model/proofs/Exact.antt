@@ -1,5 +1,5 @@
 -- The tests of each rule hold exactly where the rule does.
-use Rattle.std.proofs.Common.{◌≡◌, ℕ, ◌%◌, ◌≤◌, ◌==◌, nat_le, Bool, true, ◌&&◌, List, [], ◌∷◌, ◌++◌, map, length, Some, refl, ap, ap₂, ◌∙◌, filter_map, Decides, IsTrue}
+use Rattle.std.proofs.Common.{◌≡◌, ℕ, ◌≤◌, ◌==◌, nat_le, Bool, true, ◌&&◌, List, [], ◌∷◌, ◌++◌, map, length, Some, refl, ap, ap₂, ◌∙◌, filter_map, Decides, IsTrue}
 use Rattle.std.specs.List.{list_all, flat_map}
 use Rattle.std.proofs.lemmas.List.Folds.{list_all-append}
 use Rattle.std.proofs.lemmas.Bool.{leb-true, le-leb}
@@ -12,7 +12,7 @@ use Rattle.lw_model.specs.declared.step.Step.TheVariants as step
 use Rattle.lw_model.specs.OwnOrder.{with_past, history}
 use Rattle.lw_model.specs.Same.{is_same_reply, is_same_seen}
 use Rattle.lw_model.specs.Lines.{thread_line, hop_line, ran_line, did_line, called_line, reply_line, seen_line}
-use Rattle.lw_model.specs.Moves.{HomesAndHops, Numbers, home_of, hops_of, hop_fits, number_fits}
+use Rattle.lw_model.specs.Moves.{HomesAndHops, Numbers, home_of, first_reactor, hops_of, hop_fits, number_fits}
 use Rattle.lw_model.specs.Answers.{Answers, wanted, at_fits, did_ats, called_ats, ats_fit, did_fits, step_fits}
 use Rattle.lw_model.specs.Lawful.{Replies, VisitsSeen, BuffersHome, owed, replied_ops, replies_of, seen_by, seen_of}
 use Rattle.lw_model.specs.Verdict.{Test, each_line, against, homes_and_hops, numbers, step_test, answers, replies, visits_seen, buffers_home}
@@ -31,10 +31,10 @@ Decides-lines line fits xs = Decides-at (passes (each_line line fits xs)) (list_
 pub homes_and_hops-exact : (r : Record) → Decides (passes (homes_and_hops r)) (HomesAndHops r)
 homes_and_hops-exact r = Decides-like (passes (homes_and_hops r))
     (λ h. record { homes = λ t b. (h t b).0; hops = λ t b. (h t b).1 }) (λ h t b. (h.homes t b, h.hops t b))
-    (Decides-each_thread r (λ t. (thread_line r t, home_of r t == t % r.reactors) ∷ each_line (hop_line r t) (hop_fits r t) (hops_of r t))
-    (λ t. (home_of r t ≡ t % r.reactors) × IsTrue (list_all (λ p. hop_fits r t p.0 p.1) (with_past [] (hops_of r t))))
-    (λ t. Decides-and (home_of r t == t % r.reactors) (passes (each_line (hop_line r t) (hop_fits r t) (hops_of r t)))
-    (Decides-eqb (home_of r t) (t % r.reactors)) (Decides-lines (hop_line r t) (hop_fits r t) (hops_of r t))))
+    (Decides-each_thread r (λ t. (thread_line r t, home_of r t == first_reactor r t) ∷ each_line (hop_line r t) (hop_fits r t) (hops_of r t))
+    (λ t. (home_of r t ≡ first_reactor r t) × IsTrue (list_all (λ p. hop_fits r t p.0 p.1) (with_past [] (hops_of r t))))
+    (λ t. Decides-and (home_of r t == first_reactor r t) (passes (each_line (hop_line r t) (hop_fits r t) (hops_of r t)))
+    (Decides-eqb (home_of r t) (first_reactor r t)) (Decides-lines (hop_line r t) (hop_fits r t) (hops_of r t))))
 
 pub numbers-exact : (r : Record) → Decides (passes (numbers r)) (Numbers r)
 numbers-exact r = Decides-each_thread r (λ t. each_line (ran_line r t) number_fits (ran_of r t)) (λ t. IsTrue (list_all (λ p. number_fits p.0 p.1) (with_past [] (ran_of r t))))

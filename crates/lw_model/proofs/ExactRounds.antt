@@ -7,7 +7,7 @@ use Rattle.lw_model.specs.declared.record.Record.{Record}
 use Rattle.lw_model.specs.declared.record.Span.{Span}
 use Rattle.lw_base.specs.declared.moves.Round.{Round}
 use Rattle.lw_model.specs.OwnOrder.{with_past}
-use Rattle.lw_model.specs.Plan.{plan}
+use Rattle.lw_base.specs.Plan.{free_plan}
 use Rattle.lw_base.specs.Limits.{standard}
 use Rattle.lw_model.specs.Lines.{round_line, round_size}
 use Rattle.lw_model.specs.Same.{is_same_order}
@@ -21,15 +21,15 @@ abbrev RowsFit : Record → Round → Type 0
 RowsFit r x = IsTrue (list_all (λ p. row_fits r p.0 p.1) (with_past [] x.rows))
 
 abbrev OrdersFit : Record → Round → Type 0
-OrdersFit r x = x.orders ≡ plan standard r.reactors x.rows
+OrdersFit r x = x.orders ≡ free_plan standard r.reactors x.rows
 
 round_one : (r : Record) (span : Span) (line : ℕ) (past : List Round) (x : Round) → Decides (passes (round_tests r span line past x)) (IsTrue (round_fits r.period span past x) × (RowsFit r x × OrdersFit r x))
 round_one r span line past x =
     let rows = each_line (λ i. line + 1 + i) (row_fits r) x.rows in
-    let orders = against is_same_order (line + round_size x) (line + 1 + length x.rows) (map (λ o. Some o) (plan standard r.reactors x.rows)) x.orders in
+    let orders = against is_same_order (line + round_size x) (line + 1 + length x.rows) (map (λ o. Some o) (free_plan standard r.reactors x.rows)) x.orders in
     Decides-and (round_fits r.period span past x) (passes (rows ++ orders)) (Decides-itself (round_fits r.period span past x))
     (Decides-append rows orders (Decides-lines (λ i. line + 1 + i) (row_fits r) x.rows)
-    (Decides-listed is_same_order Tells-order (line + round_size x) (line + 1 + length x.rows) (plan standard r.reactors x.rows) x.orders))
+    (Decides-listed is_same_order Tells-order (line + round_size x) (line + 1 + length x.rows) (free_plan standard r.reactors x.rows) x.orders))
 
 abbrev RoundsFrom : Record → Span → List Round → List Round → Type 0
 RoundsFrom r span past xs = IsTrue (list_all (λ p. round_fits r.period span p.0 p.1) (with_past past xs)) × (AllByRecursion (RowsFit r) xs × AllByRecursion (OrdersFit r) xs)

@@ -11,7 +11,6 @@ pub mod OwnOrder
 pub mod Holding
 pub mod Sent
 pub mod Journal
-pub mod Plan
 pub mod Moves
 pub mod Answers
 pub mod Devices

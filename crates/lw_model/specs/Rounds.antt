@@ -7,7 +7,7 @@ use Rattle.lw_base.specs.declared.moves.Round.{Round}
 use Rattle.lw_base.specs.declared.moves.Row.{Row}
 use Rattle.lw_model.specs.Threads.{thread_count}
 use Rattle.lw_model.specs.OwnOrder.{with_past}
-use Rattle.lw_model.specs.Plan.{plan}
+use Rattle.lw_base.specs.Plan.{free_plan}
 use Rattle.lw_base.specs.Limits.{standard}
 
 -- the time that a round has to be a period past: that of the round before, or FIRST
@@ -28,7 +28,7 @@ pub record RoundsHold (r : Record) (span : Span) : Type 0 where
   pub clock : span.first ≤ span.last
   pub each : IsTrue (list_all (λ p. round_fits r.period span p.0 p.1) (with_past [] r.rounds))
   pub rows : AllByRecursion (λ x. IsTrue (list_all (λ p. row_fits r p.0 p.1) (with_past [] x.rows))) r.rounds
-  pub orders : AllByRecursion (λ x. x.orders ≡ plan standard r.reactors x.rows) r.rounds
+  pub orders : AllByRecursion (λ x. x.orders ≡ free_plan standard r.reactors x.rows) r.rounds
   pub none_overdue : length r.rounds < 10000 → span.last < time_before span.first (reverse r.rounds) + r.period
 
 -- these hold where the run was dynamic

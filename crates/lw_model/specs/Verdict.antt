@@ -1,6 +1,6 @@
 -- The verdict of a record: the least rule that fails, and the first line at which it does.
 -- Each rule here is a list of tests, each with the line at which it fails.
-use Rattle.std.specs.Prelude.{ℕ, ◌+◌, ◌%◌, ◌≤◌, ◌≡◌, ◌==◌, nat_lt, nat_le, min, Bool, false, cond, ◌&&◌, ◌||◌, not, List, [], ◌∷◌, ◌++◌, length, map, filter, Option, Some, None, slice_get, filter_map, count_by, reverse, ◌⊎◌, IsTrue}
+use Rattle.std.specs.Prelude.{ℕ, ◌+◌, ◌≤◌, ◌≡◌, ◌==◌, nat_lt, nat_le, min, Bool, false, cond, ◌&&◌, ◌||◌, not, List, [], ◌∷◌, ◌++◌, length, map, filter, Option, Some, None, slice_get, filter_map, count_by, reverse, ◌⊎◌, IsTrue}
 use Rattle.std.specs.List.{list_all, list_any, flat_map, enumerate_from, range_with_len, AllByRecursion}
 use lib.Pointwise.{pointwise}
 use Rattle.lw_base.specs.declared.message.Tag.{Tag}
@@ -13,11 +13,11 @@ use Rattle.lw_model.specs.declared.step.Step.TheVariants as step
 use Rattle.lw_model.specs.OwnOrder.{own_order_of, with_past, history}
 use Rattle.lw_model.specs.Holding.{says}
 use Rattle.lw_model.specs.Sent.{sent, run_of, tokens, must_run}
-use Rattle.lw_model.specs.Plan.{plan}
+use Rattle.lw_base.specs.Plan.{free_plan}
 use Rattle.lw_base.specs.Limits.{standard}
 use Rattle.lw_model.specs.Lines.{thread_line, hop_line, ran_line, did_line, called_line, reply_line, seen_line, device_line, clock_line, round_line, round_size, home_line}
 use Rattle.lw_model.specs.Same.{both, is_same_what, is_same_reply, is_same_seen, is_same_order, is_same_pair, is_same_numbers}
-use Rattle.lw_model.specs.Moves.{home_of, hops_of, hop_fits, number_fits}
+use Rattle.lw_model.specs.Moves.{home_of, first_reactor, hops_of, hop_fits, number_fits}
 use Rattle.lw_model.specs.Answers.{did_fits, wanted, at_fits, did_ats, called_ats}
 use Rattle.lw_model.specs.Lawful.{has_run, is_first_run, replied_ops, replies_of, owed, seen_by, seen_of}
 use Rattle.lw_model.specs.Devices.{device_at, over_steps, ordinal_on, began_on, called_on, callback_fits, refusal_fits, is_refusal}
@@ -48,7 +48,7 @@ each_client r tests = flat_map tests (clients r.script)
 
 -- Homes and hops, by `thread` and `hop` lines
 abbrev pub homes_and_hops : Record → List Test
-homes_and_hops r = each_thread r (λ t. (thread_line r t, home_of r t == t % r.reactors) ∷ each_line (hop_line r t) (hop_fits r t) (hops_of r t))
+homes_and_hops r = each_thread r (λ t. (thread_line r t, home_of r t == first_reactor r t) ∷ each_line (hop_line r t) (hop_fits r t) (hops_of r t))
 
 -- Numbers, by `ran` lines
 abbrev pub numbers : Record → List Test
@@ -115,7 +115,7 @@ visits_seen r = each_client r (λ t. against is_same_seen (thread_line r t) (see
 abbrev pub round_tests : Record → Span → ℕ → List Round → Round → List Test
 round_tests r span line past x = (line, round_fits r.period span past x)
     ∷ (each_line (λ i. line + 1 + i) (row_fits r) x.rows
-    ++ against is_same_order (line + round_size x) (line + 1 + length x.rows) (map (λ o. Some o) (plan standard r.reactors x.rows)) x.orders)
+    ++ against is_same_order (line + round_size x) (line + 1 + length x.rows) (map (λ o. Some o) (free_plan standard r.reactors x.rows)) x.orders)
 
 -- the tests of a dynamic run; a round that is overdue fails at the `home` line
 abbrev pub clock_tests : Record → Span → List Test

@@ -5,13 +5,14 @@ use mathlib.Core.Option.{none, some}
 use lib.ListN.{get_elem?}
 use Rattle.atomic_table.specs.Table.{keeps, step, Allows}
 use Rattle.lw_place.specs.declared.place.Place.{Place}
+use Rattle.lw_place.specs.declared.place.Place.TheVariants as place
 use Rattle.lw_place.specs.declared.table.Stand.{Stand}
 use Rattle.lw_place.specs.declared.table.Homes.{Homes}
 use Rattle.lw_place.specs.declared.table.PlaceView.{PlaceView}
 use Rattle.lw_base.specs.Totals.{total}
 use Rattle.lw_base.specs.Words.{above_u64}
 use Rattle.lw_place.specs.PlaceWord.{most_threads, most_reactors, done_word, halt_word, first_word, word_of, place_of, IsBelow, IsWord}
-use Rattle.lw_place.specs.PlaceTable.{desks, retired, halted, thread_count, count_of, times, moved_to, IsStanding, Placed, Sat, Moves, Retires, Halts, LooksAtDone, LooksAtHalt, Looks, LearnsDone, LearnsHalt, Learns}
+use Rattle.lw_place.specs.PlaceTable.{desks, retired, halted, thread_count, count_of, times, moved_to, IsStanding, Placed, Sat, with_view, begun, begins_first, Moves, Begins, Retires, Halts, LooksAtDone, LooksAtHalt, Looks, LearnsDone, LearnsHalt, Learns}
 use Rattle.lw_base.proofs.Totals.{total_set, at_le, others_none, total_only, some_view}
 use Rattle.lw_place.proofs.Words.{place_in_word, is_word}
 use Rattle.lw_place.proofs.Standing.{times_moved, length_moved, times_here, kept_apart, kept_low, some_stand}
@@ -85,6 +86,17 @@ pub moves_to : (homes : Homes) (slots id : ℕ) (me : Sat) (x : Stand) (p : Plac
     → Allows (Placed homes) slots id me (x.thread + first_word) (λ _. word) (λ _. Moves (step slots (x.thread + first_word) word 0 none) me word)
 moves_to homes slots id me x p word e is few some_threads below =
     subst (λ k. Allows (Placed homes) slots id me (x.thread + first_word) (λ _. k) (λ _. Moves (step slots (x.thread + first_word) k 0 none) me k)) (sym e) (moves homes slots id me x p is few some_threads below)
+
+-- to start is to move from where the thread is held to that reactor's list
+pub begins_to : (homes : Homes) (slots id : ℕ) (me : Sat) (x : Stand) (c : ℕ) (word : ℕ) → word ≡ word_of (place.List c) → me.0.stands ≡ x ∷ [] → x.place ≡ place.Held c → me.0.reactors ≤ most_reactors → 1 ≤ me.0.threads → c < me.0.reactors
+    → Allows (Placed homes) slots id me (x.thread + first_word) (λ _. word) (λ _. Begins (step slots (x.thread + first_word) word 0 none) me word)
+begins_to homes slots id me x c word e is held few some_threads below s h long at small =
+    let moved = moves_to homes slots id me x (place.List c) word e is few some_threads below s h long at small in
+    let v = me.0 in
+    let there : place_of word ≡ place.List c = ap place_of e ∙ place_in_word v.reactors (place.List c) few below in
+    let by_move : moved_to (place_of word) v.stands ≡ record x { place = place.List c } ∷ [] = ap (λ (q : Place). moved_to q v.stands) there ∙ ap (λ xs. moved_to (place.List c) xs) is in
+    let by_start : begins_first v.stands ≡ record x { place = place.List c } ∷ [] = ap begins_first is ∙ ap (λ (q : Place). record x { place = begun q } ∷ []) held in
+    (moved.0, moved.1, moved.2, moved.3, moved.4 ∙ ap (λ (xs : List Stand). with_view me (record v { stands = xs })) (by_move ∙ sym by_start))
 
 pub retires : (homes : Homes) (slots id : ℕ) (me : Sat) → me.0.desks ≡ 1 → me.0.retired < most_threads
     → Allows (Placed homes) slots id me done_word (λ n. (n + 1) % above_u64) (Retires (step slots done_word 1 0 none) me)

@@ -1,5 +1,5 @@
 -- What callers see of the seats.
-use Rattle.std.specs.Prelude.{◌≡◌, ◌⊎◌, ℕ, ◌+◌, ◌<◌, ◌≤◌, max, List, [], ◌∷◌, length, replicate, All, Any, slice_index_or, Option, None}
+use Rattle.std.specs.Prelude.{◌≡◌, ◌⊎◌, ℕ, ◌+◌, ◌<◌, ◌≤◌, max, List, [], ◌∷◌, length, replicate, All, Any, slice_index_or, Option, None, ⊤}
 use Rattle.atomic_table.specs.Seated.{TableId}
 use Rattle.atomic_table.specs.declared.shared.Seat.{Seat}
 use Rattle.lw_place.specs.declared.place.Place.TheVariants as place
@@ -47,12 +47,22 @@ thread_of table v x = record { places = places_of table v; thread = x.thread; pl
 abbrev pub desk_of : TableId → PlaceView → DeskEnd
 desk_of table v = record { places = places_of table v; retired = v.retired; halted = v.halted; looks = v.looks; done_seen = v.done_seen; halt_seen = v.halt_seen; found = v.found }
 
--- the place is the list of a reactor, or an event to one
+-- the place is the list of a reactor; an event to one; or one holds the thread
 abbrev pub IsList : Place → Type 0
 IsList p = (reactor : ℕ) × (p ≡ place.List reactor)
 
 abbrev pub IsEvent : Place → Type 0
 IsEvent p = (reactor : ℕ) × (p ≡ place.Event reactor)
+
+abbrev pub IsHeld : Place → Type 0
+IsHeld p = (reactor : ℕ) × (p ≡ place.Held reactor)
+
+-- a thread at this place may leave for a reactor: it is neither held, nor has it ended
+abbrev pub MayLeave : Place → Type 0
+MayLeave (place.List reactor) = ⊤
+MayLeave (place.Event reactor) = ⊤
+MayLeave (place.Held reactor) = ⊥
+MayLeave place.Ended = ⊥
 
 -- the view is that of a seat which was not joined away, of a table with a word for each thread
 pub record IsSeat (table : TableId) (v : PlaceView) : Type 0 where
@@ -89,13 +99,13 @@ pub record KeepsDesk (table : TableId) (seat : Seat (Unit {0}) PlaceView) : Type
 abbrev pub new_desk : Places → DeskEnd
 new_desk p = record { places = p; retired = 0; halted = 0; looks = 0; done_seen = 0; halt_seen = 0; found = None }
 
--- the seats of new places: thread t is in the list of its home, and there is a desk for each reactor
-pub record AreNew (home : ℕ → ℕ) (threads reactors : ℕ) (ts : List ThreadEnd) (ds : List DeskEnd) : Type 0 where
+-- the seats of new places, of threads that start at these: thread t is at the t-th, and there is a desk for each reactor
+pub record AreNew (starts : List Place) (reactors : ℕ) (ts : List ThreadEnd) (ds : List DeskEnd) : Type 0 where
   pub places : Places
-  pub for_threads : places.threads ≡ threads
+  pub for_threads : places.threads ≡ length starts
   pub for_reactors : places.reactors ≡ reactors
-  pub thread_count : length ts ≡ threads
-  pub each_thread : (t : ℕ) (d : ThreadEnd) → t < threads → slice_index_or ts t d ≡ record { places = places; thread = t; place = place.List (home t) }
+  pub thread_count : length ts ≡ length starts
+  pub each_thread : (t : ℕ) (d : ThreadEnd) (p : Place) → t < length starts → slice_index_or ts t d ≡ record { places = places; thread = t; place = slice_index_or starts t p }
   pub desks : ds ≡ replicate reactors (new_desk places)
 
 -- how many threads these desks have retired, and how many of them have halted

@@ -63,14 +63,14 @@ pub record Placed (homes : Homes) (s : State (Unit {0}) PlaceView) : Type 0 wher
   pub stands_once : (thread : ℕ) → thread < length homes.of.items → total (count_of thread) s.views ≡ 1
   pub each : (i : ℕ) (v : PlaceView) → get_elem? s.views i ≡ some v → Fits (length homes.of.items) homes.reactors s.words (total retired s.views) (total halted s.views) v
 
--- the threads from a number on, each in the list of its home
-abbrev pub stands_from : ℕ → List ℕ → List Stand
+-- the threads from a number on, each at its place
+abbrev pub stands_from : ℕ → List Place → List Stand
 stands_from thread [] = []
-stands_from thread (home ∷ homes) = record { thread = thread; place = place.List home } ∷ stands_from (thread + 1) homes
+stands_from thread (p ∷ ps) = record { thread = thread; place = p } ∷ stands_from (thread + 1) ps
 
 -- the words at the start
-abbrev pub words_of : List ℕ → List ℕ
-words_of homes = 0 ∷ 0 ∷ map (λ home. 2 * home) homes
+abbrev pub words_of : List Place → List ℕ
+words_of places = 0 ∷ 0 ∷ map word_of places
 
 -- a view of a seat that has done nothing
 abbrev pub new_view : ℕ → ℕ → List Stand → ℕ → PlaceView
@@ -140,6 +140,21 @@ moved_to p (x ∷ xs) = record x { place = p } ∷ xs
 
 abbrev pub Moves : Step (Unit {0}) → Sat → ℕ → Sat → Type 0
 Moves step old word new = new ≡ with_view old (record (view_of old) { stands = moved_to (place_of step.first) (view_of old).stands })
+
+-- a thread that was held is in the list of the same reactor
+abbrev pub begun : Place → Place
+begun (place.List reactor) = place.List reactor
+begun (place.Event reactor) = place.Event reactor
+begun (place.Held reactor) = place.List reactor
+begun place.Ended = place.Ended
+
+abbrev pub begins_first : List Stand → List Stand
+begins_first [] = []
+begins_first (x ∷ xs) = record x { place = begun x.place } ∷ xs
+
+-- the first of these threads, which is held, starts
+abbrev pub Begins : Step (Unit {0}) → Sat → ℕ → Sat → Type 0
+Begins step old word new = new ≡ with_view old (record (view_of old) { stands = begins_first (view_of old).stands })
 
 abbrev pub Retires : Step (Unit {0}) → Sat → ℕ → Sat → Type 0
 Retires step old word new = new ≡ with_view old (record (view_of old) { retired = (view_of old).retired + 1 })

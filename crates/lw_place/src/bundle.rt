@@ -38,14 +38,15 @@ impl Model for Bundle {
 }
 
 impl Bundle {
-    // The seat of the first of these threads.
-    pub(crate) fn deal_thread(&mut self, thread: u32, home: u32) -> Result<ThreadSeat, NoMemory>
-        requires first { (rest : _) × (self.old.view.stands ≡ record { thread = thread; place = Place.List home } ∷ rest) }
-        requires range { (thread < self.old.view.threads) × (home < self.old.view.reactors) }
+    // The seat of the first of these threads, which is at this place.
+    pub(crate) fn deal_thread(&mut self, thread: u32, place: Place) -> Result<ThreadSeat, NoMemory>
+        requires first { (rest : _) × (self.old.view.stands ≡ record { thread = thread; place = place } ∷ rest) }
+        requires number { thread < self.old.view.threads }
+        requires below { IsBelow self.old.view.reactors place }
         ensures thread { IfOk result (λ t. t ≡ record {
           places = places_of self.old.table self.old.view;
           thread = thread;
-          place = Place.List home;
+          place = place;
         }) }
         ensures rest { IfOk result (λ _.
             self.new ≡ record self.old { view = less_first_thread self.old.view }) }
@@ -56,7 +57,7 @@ impl Bundle {
             table,
             seat,
             thread,
-            place: Place::List(home),
+            place,
         })
     }
 

@@ -1,4 +1,4 @@
-//! Where each light thread stands: in the list of a reactor, on its way to one, or ended.
+//! Where each light thread stands: in the list of a reactor, on its way to one, held by one until it is started, or ended.
 //!
 //! All light threads of a run share one table of atomic words. A seat is what its holder knows of these words, and by it
 //! alone the holder changes or reads them. Each thread has a seat, which alone moves the thread, and each reactor has a desk,
@@ -17,6 +17,6 @@ mod thread_seat;
 pub use desk_seat::DeskSeat;
 pub use gathering::{Whole, gather};
 pub use making::places;
-pub use place::Place;
+pub use place::{Place, Start};
 pub use table::{Homes, PlaceRule, PlaceTable, PlaceView, Stand};
 pub use thread_seat::ThreadSeat;

@@ -22,8 +22,8 @@ pub struct Stand {
 /// What a table of places is made for. It is for no caller.
 #[derive(Drop)]
 pub struct Homes {
-    /// In which reactor's list each thread starts, by its number.
-    pub of: Vec<u32>,
+    /// Where each thread starts, by its number.
+    pub of: Vec<Place>,
     /// How many reactors there are.
     pub reactors: u32,
 }
@@ -71,6 +71,15 @@ impl Play<(), PlaceView> for Moving {
     ghost use Rattle.lw_place.specs.PlaceTable.{Moves};
 
     ghost then = { Moves };
+}
+
+/// A thread that is held starts: it goes to the list of its reactor.
+pub struct Starting;
+
+impl Play<(), PlaceView> for Starting {
+    ghost use Rattle.lw_place.specs.PlaceTable.{Begins};
+
+    ghost then = { Begins };
 }
 
 pub struct Retiring;

@@ -1,11 +1,11 @@
 //! A light thread's seat.
-ghost use Rattle.std.specs.Prelude.{◌≡◌, ◌≢◌, ℕ, ◌<◌};
+ghost use Rattle.std.specs.Prelude.{◌≡◌, ℕ, ◌<◌};
 ghost use Rattle.lw_place.specs.PlaceWord.{IsBelow};
-ghost use Rattle.lw_place.specs.PlaceSeats.{IsList, IsEvent, thread_view, stand};
+ghost use Rattle.lw_place.specs.PlaceSeats.{IsList, IsEvent, IsHeld, MayLeave, thread_view, stand};
 
 use crate::bundle::Bundle;
 use crate::place::Place;
-use crate::table::{FIRST_THREAD, Moving, PlaceTable, PlaceView};
+use crate::table::{FIRST_THREAD, Moving, PlaceTable, PlaceView, Starting};
 use atomic_table::Seat;
 use std::alloc::Global;
 use std::marker::Model;
@@ -36,9 +36,9 @@ impl Model for ThreadSeat {
 }
 
 impl ThreadSeat {
-    /// The thread leaves for a reactor: it is in an event to it from now on.
+    /// The thread leaves for a reactor: it is in an event to it from now on. It has neither ended, nor is it held.
     pub fn leave_for(&mut self, to: u32)
-        requires place { self.old.place ≢ Place.Ended }
+        requires place { MayLeave self.old.place }
         requires range { to < self.old.places.reactors }
         ensures { self.new ≡ record self.old { place = Place.Event to } }
     {
@@ -53,6 +53,18 @@ impl ThreadSeat {
     {
         match self.place {
             Place::Event(reactor) => self.move_to(Place::List(reactor)),
+            _ => unreachable!(),
+        }
+    }
+
+    /// The thread, which a reactor holds, starts: it is in that reactor's list from now on.
+    pub fn start(&mut self)
+        requires { IsHeld self.old.place }
+        ensures { (reactor : ℕ) → self.old.place ≡ Place.Held reactor →
+            self.new ≡ record self.old { place = Place.List reactor } }
+    {
+        match self.place {
+            Place::Held(reactor) => self.begin(reactor),
             _ => unreachable!(),
         }
     }
@@ -88,6 +100,19 @@ impl ThreadSeat {
         self.table
             .shared
             .store::<Moving>(&mut self.seat, word, place.word());
+        self.place = place;
+    }
+
+    // One store of the word of a thread that this reactor holds.
+    fn begin(&mut self, reactor: u32)
+        requires { self.old.place ≡ Place.Held reactor }
+        ensures { self.new ≡ record self.old { place = Place.List reactor } }
+    {
+        let word = self.thread as usize + FIRST_THREAD;
+        let place = Place::List(reactor);
+        self.table
+            .shared
+            .store::<Starting>(&mut self.seat, word, place.word());
         self.place = place;
     }
 

@@ -12,8 +12,9 @@ use Rattle.lw_base.specs.declared.ends.DeviceEnd.{DeviceEnd}
 use Rattle.lw_model.specs.declared.record.Span.{Span}
 use Rattle.lw_model.specs.Threads.{of_thread, ran_of}
 use Rattle.lw_model.specs.OwnOrder.{with_past}
-use Rattle.lw_model.specs.Moves.{HomesAndHops, Numbers, home_of, hops_of, hop_fits, number_fits}
+use Rattle.lw_model.specs.Moves.{HomesAndHops, Numbers, home_of, first_reactor, hops_of, hop_fits, number_fits}
 use Rattle.lw_model.specs.Rounds.{RoundsAndOrders, RoundsHold}
+use Rattle.lw_model.proofs.Homes.{first_reactor_is}
 use Rattle.lw_model.specs.Lawful.{Lawful, VisitsSeen, seen_of, seen_by}
 use Rattle.lw_target.specs.WholeRun.{are_numbered}
 use Rattle.lw_target.proofs.WholeParts.{IsMadeOf, each, each_client, of_app, of_client, of_owner}
@@ -38,8 +39,8 @@ abbrev RoundsOf : Record → Option Span → Type 0
 RoundsOf r span = elim span [ None ↦ Unit {0} | Some x ↦ RoundsHold r x ]
 
 module _ (r : Record) (app client owner : ThreadRecord) (end : DeviceEnd) (made : IsMadeOf r app client owner end) where
-  home_at : (t : ℕ) (x : ThreadRecord) → slice_get r.threads t ≡ Some x → x.home ≡ 0 → home_of r t ≡ t % r.reactors
-  home_at t x e f = ap (λ (o : Option ThreadRecord). unwrap_or (option_map (λ (y : ThreadRecord). y.home) o) 0) e ∙ f ∙ sym (ap (λ n. t % n) made.reactors ∙ one t)
+  home_at : (t : ℕ) (x : ThreadRecord) → slice_get r.threads t ≡ Some x → x.home ≡ 0 → home_of r t ≡ first_reactor r t
+  home_at t x e f = ap (λ (o : Option ThreadRecord). unwrap_or (option_map (λ (y : ThreadRecord). y.home) o) 0) e ∙ f ∙ sym (first_reactor_is r t ∙ ap (λ n. t % n) made.reactors ∙ one t)
     where
       one : (n : ℕ) → n % 1 ≡ 0
       one n = omega arith
@@ -52,7 +53,7 @@ module _ (r : Record) (app client owner : ThreadRecord) (end : DeviceEnd) (made 
 
   homes_and_hops : HomesAndHops r
   homes_and_hops = record {
-    homes = each r app client owner end made (λ t. home_of r t ≡ t % r.reactors)
+    homes = each r app client owner end made (λ t. home_of r t ≡ first_reactor r t)
         (home_at 0 app (thread_at 0 app refl) made.whole.app_ended.stayed.home)
         (home_at 1 client (thread_at 1 client refl) made.whole.client_ended.stayed.home)
         (home_at 2 owner (thread_at 2 owner refl) made.whole.owner_ended.stayed.home);

@@ -1,16 +1,17 @@
 //! Where light threads stand.
-ghost use Rattle.std.specs.Prelude.{◌≡◌, ◌≢◌, ◌<◌, ◌∷◌, [], IfOk};
-ghost use Rattle.lw_place.specs.PlaceSeats.{new_desk};
+ghost use Rattle.std.specs.Prelude.{◌≡◌, ◌<◌, ◌∷◌, [], IfOk};
+ghost use Rattle.lw_place.specs.PlaceSeats.{MayLeave, new_desk};
 
 use lw_base::NoMemory;
-use lw_place::{DeskSeat, Place, ThreadSeat, Whole, gather, places};
+use lw_place::{DeskSeat, Place, Start, ThreadSeat, Whole, gather, places};
 use std::alloc::Global;
 use std::test::Fail;
 use std::thread;
 
 // The places of three threads over two reactors, gathered at once.
 fn at_home(alloc: Global) -> Result<Whole, NoMemory> {
-    let (threads, desks) = places(alloc, 3, 2)?;
+    let starts = [Start::List(0), Start::List(1), Start::List(0)];
+    let (threads, desks) = places(alloc, starts.as_slice(), 2)?;
     gather(alloc, threads, desks)
 }
 
@@ -29,7 +30,8 @@ fn one_of_each(alloc: Global) -> Result<(ThreadSeat, DeskSeat), NoMemory>
     ensures desk { IfOk result (λ r. r.1 ≡ new_desk r.1.places) }
     ensures counts { IfOk result (λ r. (r.1.places.threads ≡ 1) × (r.1.places.reactors ≡ 1)) }
 {
-    let (mut threads, mut desks) = places(alloc, 1, 1)?;
+    let starts = [Start::List(0)];
+    let (mut threads, mut desks) = places(alloc, starts.as_slice(), 1)?;
     let desk = desks.pop().unwrap();
     let thread = threads.pop().unwrap();
     Ok((thread, desk))
@@ -83,12 +85,34 @@ fn two_of_each(alloc: Global) -> Result<(ThreadSeat, ThreadSeat, DeskSeat, DeskS
     ensures desks { IfOk result (λ r. (r.2 ≡ new_desk r.2.places) × (r.3 ≡ new_desk r.2.places)) }
     ensures counts { IfOk result (λ r. (r.2.places.threads ≡ 2) × (r.2.places.reactors ≡ 2)) }
 {
-    let (mut threads, mut desks) = places(alloc, 2, 2)?;
+    let starts = [Start::List(0), Start::List(1)];
+    let (mut threads, mut desks) = places(alloc, starts.as_slice(), 2)?;
     let other_desk = desks.pop().unwrap();
     let desk = desks.pop().unwrap();
     let other = threads.pop().unwrap();
     let thread = threads.pop().unwrap();
     Ok((thread, other, desk, other_desk))
+}
+
+// The seat of thread 1, which reactor 1 holds, and the desk of reactor 1.
+fn one_held(alloc: Global) -> Result<(ThreadSeat, DeskSeat), NoMemory>
+    ensures thread { IfOk result (λ r. r.0 ≡ record { places = r.1.places; thread = 1; place = Place.Held 1 }) }
+    ensures counts { IfOk result (λ r. (r.1.places.threads ≡ 2) × (r.1.places.reactors ≡ 2)) }
+{
+    let starts = [Start::List(0), Start::Held(1)];
+    let (mut threads, mut desks) = places(alloc, starts.as_slice(), 2)?;
+    let desk = desks.pop().unwrap();
+    let thread = threads.pop().unwrap();
+    Ok((thread, desk))
+}
+
+#[test]
+fn a_held_thread_is_started_once(rt: HostRuntime) -> Result<(), Fail> {
+    let (mut thread, mut desk) = one_held(rt.alloc())?;
+    assert!(rt; desk.look(1) == Place::Held(1) && desk.look(0) == Place::List(0));
+    thread.start();
+    assert!(rt; desk.look(1) == Place::List(1) && thread.place() == Place::List(1));
+    Ok(())
 }
 
 // Looks at a thread and at the count, many times.
@@ -105,7 +129,7 @@ fn look_often(desk: &mut DeskSeat, thread: u32)
 
 // A thread goes to reactor 1 and to reactor 0, and ends, while its desk looks at another thread.
 fn goes_and_looks(mut thread: ThreadSeat, mut desk: DeskSeat, other: u32) -> (ThreadSeat, DeskSeat)
-    requires thread { (thread.place ≢ Place.Ended) × (thread.places.reactors ≡ 2) }
+    requires thread { MayLeave thread.place × (thread.places.reactors ≡ 2) }
     requires desk { (desk.retired ≡ 0) × (desk.halted ≡ 0) × (other < desk.places.threads) }
     ensures thread { result.0 ≡ record thread { place = Place.Ended } }
     ensures desk { (result.1.places ≡ desk.places) × (result.1.retired ≡ 1) × (result.1.halted ≡ 0) }

@@ -1,12 +1,12 @@
 -- Homes and hops, from the trails of the threads and the orders that were taken.
-use Rattle.std.proofs.Common.{◌≡◌, ℕ, ◌%◌, ◌==◌, Bool, true, false, ◌&&◌, ◌||◌, List, [], ◌∷◌, Option, unwrap_or, option_map, refl, ap, subst, ◌∙◌, arith}
+use Rattle.std.proofs.Common.{◌≡◌, ℕ, ◌==◌, Bool, true, false, ◌&&◌, ◌||◌, List, [], ◌∷◌, Option, unwrap_or, option_map, refl, ap, subst, ◌∙◌, arith}
 use Rattle.std.specs.List.{list_all, list_any}
 use Rattle.std.proofs.lemmas.Bool.{and_parts, and_from, eqb-true, false≢true}
 use Rattle.lw_model.specs.declared.record.Record.{Record}
 use Rattle.lw_base.specs.declared.moves.Hop.{Hop}
 use Rattle.lw_model.specs.declared.record.ThreadRecord.{ThreadRecord}
 use Rattle.lw_model.specs.OwnOrder.{with_past}
-use Rattle.lw_model.specs.Moves.{HomesAndHops, hop_fits, is_ordered, is_above_last}
+use Rattle.lw_model.specs.Moves.{HomesAndHops, first_reactor, hop_fits, is_ordered, is_above_last}
 use Rattle.lw_whole.specs.Logs.{Log}
 use Rattle.lw_whole.specs.WholeRun.{IsWholeRun, Taken, is_for, was_sent}
 use Rattle.lw_whole.proofs.Access.{at_place, at_number, under, of_log, log_of}
@@ -41,7 +41,7 @@ pub homes_and_hops : (r : Record) (logs : List Log) → IsWholeRun r logs → Ho
 homes_and_hops r logs w = record {
   homes = λ t less. let l = log_of r logs w t less in
       ap (λ (o : Option ThreadRecord). unwrap_or (option_map (λ (x : ThreadRecord). x.home) o) 0) (under r logs w t ∙ ap (λ (o : Option Log). option_map (λ (l : Log). l.lines) o) l.1)
-      ∙ subst (λ n. l.0.lines.home ≡ n % r.reactors) (omega arith) (at_number (λ n x. x.lines.home ≡ n % r.reactors) 0 logs t l.0 w.moved.homes l.1);
+      ∙ subst (λ n. l.0.lines.home ≡ first_reactor r n) (omega arith) (at_number (λ n x. x.lines.home ≡ first_reactor r n) 0 logs t l.0 w.moved.homes l.1);
   hops = λ t less. let l = log_of r logs w t less in
       ap (λ (hs : List Hop). list_all (λ p. hop_fits r t p.0 p.1) (with_past [] hs)) (of_log r logs w (λ x. x.hops) t l.0 l.1)
       ∙ each_hop r t w.moved.taken w.moved.sent [] l.0.lines.hops

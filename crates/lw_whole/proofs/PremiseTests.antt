@@ -1,5 +1,5 @@
 -- Tests of the premises of a whole run.
-use Rattle.std.proofs.Common.{◌≡◌, ℕ, suc, ◌+◌, ◌%◌, ◌==◌, nat_le, Bool, true, false, not, ◌&&◌, ◌||◌, List, [], ◌∷◌, map, filter_map, take, zip, length, count_by, refl, sym, arith}
+use Rattle.std.proofs.Common.{◌≡◌, ℕ, suc, ◌+◌, ◌==◌, nat_le, Bool, true, false, not, ◌&&◌, ◌||◌, List, [], ◌∷◌, map, filter_map, take, zip, length, count_by, refl, sym, arith}
 use Rattle.std.specs.Prelude.{Any}
 use Rattle.std.specs.List.{list_all, list_any, AllByRecursion, enumerate_from, range_with_len}
 use Rattle.std.proofs.lemmas.Bool.{and_parts, eqb-true, ne_eqb, leb-true, false≢true}
@@ -11,7 +11,7 @@ use Rattle.lw_model.specs.Threads.{ops_of, is_client, is_on, images}
 use Rattle.lw_model.specs.OwnOrder.{with_past}
 use Rattle.lw_model.specs.Holding.{says, ordinal_given}
 use Rattle.lw_model.specs.Devices.{device_at, is_began, is_refusal}
-use Rattle.lw_model.specs.Moves.{is_above_last}
+use Rattle.lw_model.specs.Moves.{first_reactor, is_above_last}
 use Rattle.lw_model.specs.Sent.{sent_last}
 use Rattle.lw_model.specs.Same.{is_same_reply, is_same_seen}
 use Rattle.lw_model.specs.Verdict.{rounds_and_orders, buffers_home}
@@ -120,7 +120,7 @@ test the.given r logs taken = list_all (λ d. total (λ n. length n.ordinals) (n
 test the.who_began r logs taken = list_all (λ d. list_any (λ n. n.begun == 1 && n.count == (device_at r d).given && n.began_by == (device_at r d).thread) (notes_of d logs)) (images r.script)
 test the.all_fired r logs taken = list_all (λ d. total (λ n. n.fired) (notes_of d logs) == (device_at r d).callbacks) (images r.script)
 test the.one_callback r logs taken = list_all (λ d. (device_at r d).callbacks == 1) (images r.script)
-test the.homes r logs taken = each_log (λ t l. l.lines.home == t % r.reactors) logs
+test the.homes r logs taken = each_log (λ t l. l.lines.home == first_reactor r t) logs
 test the.ascend r logs taken = each_log (λ t l. list_all (λ p. is_above_last p.0 p.1) (with_past [] l.lines.hops)) logs
 test the.for_orders r logs taken = each_log (λ t l. list_all (λ h. list_any (is_for t h) taken) l.lines.hops) logs
 test the.orders_sent r logs taken = list_all (was_sent r) taken

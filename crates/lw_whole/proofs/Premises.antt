@@ -1,5 +1,5 @@
 -- The premises of a whole run, one by one.
-use Rattle.std.proofs.Common.{◌≡◌, ℕ, zero, suc, ◌+◌, ◌%◌, ◌<◌, ◌≤◌, ◌==◌, Bool, true, false, not, ◌||◌, List, [], ◌∷◌, map, filter_map, take, zip, length, Some, slice_get, count_by, refl, subst, arith}
+use Rattle.std.proofs.Common.{◌≡◌, ℕ, zero, suc, ◌+◌, ◌<◌, ◌≤◌, ◌==◌, Bool, true, false, not, ◌||◌, List, [], ◌∷◌, map, filter_map, take, zip, length, Some, slice_get, count_by, refl, subst, arith}
 use Rattle.std.specs.Prelude.{Any}
 use Rattle.std.specs.List.{list_all, list_any, AllByRecursion, enumerate_from, range_with_len}
 use Rattle.lw_base.specs.Letters.{sent_by, Numbered}
@@ -10,7 +10,7 @@ use Rattle.lw_model.specs.Threads.{ops_of, is_client, is_on, images}
 use Rattle.lw_model.specs.OwnOrder.{with_past}
 use Rattle.lw_model.specs.Holding.{says, ordinal_given}
 use Rattle.lw_model.specs.Devices.{device_at, is_began, is_refusal}
-use Rattle.lw_model.specs.Moves.{is_above_last}
+use Rattle.lw_model.specs.Moves.{first_reactor, is_above_last}
 use Rattle.lw_model.specs.Rounds.{RoundsAndOrders}
 use Rattle.lw_model.specs.Sent.{sent_last, to_thread}
 use Rattle.lw_model.specs.Lawful.{BuffersHome}
@@ -113,7 +113,7 @@ Holds given r logs taken = EachImage r.script (λ d. total (λ n. length n.ordin
 Holds who_began r logs taken = EachImage r.script (λ d. Any (λ n. (n.begun ≡ 1) × (n.count ≡ (device_at r d).given) × (n.began_by ≡ (device_at r d).thread)) (notes_of d logs))
 Holds all_fired r logs taken = EachImage r.script (λ d. total (λ n. n.fired) (notes_of d logs) ≡ (device_at r d).callbacks)
 Holds one_callback r logs taken = EachImage r.script (λ d. (device_at r d).callbacks ≡ 1)
-Holds homes r logs taken = EachLog (λ t l. l.lines.home ≡ t % r.reactors) logs
+Holds homes r logs taken = EachLog (λ t l. l.lines.home ≡ first_reactor r t) logs
 Holds ascend r logs taken = EachLog (λ t l. list_all (λ p. is_above_last p.0 p.1) (with_past [] l.lines.hops) ≡ true) logs
 Holds for_orders r logs taken = EachLog (λ t l. list_all (λ h. list_any (is_for t h) taken) l.lines.hops ≡ true) logs
 Holds orders_sent r logs taken = list_all (was_sent r) taken ≡ true

@@ -1,12 +1,12 @@
 -- The whole run: the logs of all threads, the settled rings and registry, where the threads ran, and the pool.
-use Rattle.std.specs.Prelude.{ℕ, ◌%◌, ◌≡◌, ◌==◌, Bool, true, ◌&&◌, List, [], map}
+use Rattle.std.specs.Prelude.{ℕ, ◌≡◌, ◌==◌, Bool, true, ◌&&◌, List, [], map}
 use Rattle.std.specs.List.{list_all, list_any, AllByRecursion, enumerate_from}
 use Rattle.lw_model.specs.declared.record.Record.{Record}
 use Rattle.lw_base.specs.declared.moves.Order.{Order}
 use Rattle.lw_base.specs.declared.moves.Hop.{Hop}
 use Rattle.lw_model.specs.Threads.{images}
 use Rattle.lw_model.specs.OwnOrder.{with_past}
-use Rattle.lw_model.specs.Moves.{is_above_last}
+use Rattle.lw_model.specs.Moves.{first_reactor, is_above_last}
 use Rattle.lw_model.specs.Devices.{device_at}
 use Rattle.lw_model.specs.Rounds.{RoundsAndOrders}
 use Rattle.lw_model.specs.Lawful.{BuffersHome}
@@ -32,7 +32,7 @@ was_sent r x = list_any (λ n. n.number == x.round && list_any (λ o. o.thread =
 -- order that was taken; each order that was taken was sent in a round
 pub record Moved (r : Record) (logs : List Log) : Type 0 where
   pub taken : List Taken
-  pub homes : AllByRecursion (λ p. p.1.lines.home ≡ p.0 % r.reactors) (enumerate_from 0 logs)
+  pub homes : AllByRecursion (λ p. p.1.lines.home ≡ first_reactor r p.0) (enumerate_from 0 logs)
   pub ascend : AllByRecursion (λ l. list_all (λ p. is_above_last p.0 p.1) (with_past [] l.lines.hops) ≡ true) logs
   pub for_orders : AllByRecursion (λ p. list_all (λ h. list_any (is_for p.0 h) taken) p.1.lines.hops ≡ true) (enumerate_from 0 logs)
   pub sent : list_all (was_sent r) taken ≡ true

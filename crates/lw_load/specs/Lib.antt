@@ -1,0 +1,2 @@
+pub mod LoadRule
+pub mod LoadEnds

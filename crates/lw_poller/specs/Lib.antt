@@ -1,0 +1,5 @@
+pub mod Numbers
+pub mod Pollers
+pub mod LocalDue
+pub mod Changes
+pub mod OnePoll

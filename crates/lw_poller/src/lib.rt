@@ -1,0 +1,20 @@
+//! The pollers of one light thread, and which of them a poll calls, in which order.
+//!
+//! A poll calls each active poller, in order of registration, and each timed poller that is due, in order of due time. A poller
+//! that was added during a poll is first called in a later one, and one that was removed or paused isn't called any more.
+#![tactic(auto)]
+
+mod adding;
+mod changing;
+mod names;
+mod numbers;
+mod once;
+mod places;
+mod poller;
+mod polling;
+mod set;
+
+pub use names::{PollerId, PollerRefusal};
+pub use once::{neither_added_nor_removed_pollers_are_called, pollers_are_called_once};
+pub use poller::{Active, Resting, Timed};
+pub use set::PollerSet;
