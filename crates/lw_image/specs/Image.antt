@@ -10,9 +10,9 @@ pub record Contents : Type 0 where
   pub bytes : List ℕ
   pub writes : ℕ
 
--- `count` blocks from `start` on, at least one, stand in the image
+-- `count` blocks from `start` on stand in the image
 abbrev pub HasRange : Contents → ℕ → ℕ → Type 0
-HasRange image start count = (0 < count) × (start + count ≤ image.blocks)
+HasRange image start count = start + count ≤ image.blocks
 
 -- two images are of one size
 abbrev pub SameSize : Contents → Contents → Type 0

@@ -1,12 +1,15 @@
 //! One image.
-ghost use Rattle.std.specs.Prelude.{◌≡◌, ℕ, List, ◌+◌, ◌*◌, ◌^◌, ◌<◌, ◌≤◌, [], ◌∷◌, length, Option, Some, IfOk};
+ghost use Rattle.std.specs.Prelude.{◌≡◌, ℕ, List, ◌+◌, ◌*◌, ◌^◌, ◌<◌, ◌≤◌, [], ◌∷◌, length, drop, Option, Some, IfOk};
 ghost use Rattle.lw_model.specs.declared.script.Op.{Op};
 ghost use Rattle.lw_model.specs.declared.script.Op.TheVariants.{Write};
 ghost use Rattle.lw_model.specs.Replay.{bytes_after};
+ghost use Rattle.lw_pool.specs.Sizes.{size_of};
+ghost use Rattle.lw_pool.specs.PoolEnds.{filled_bytes};
 ghost use Rattle.lw_image.specs.Image.{HasRange, SameSize, IsAfter};
 
 use crate::fill::fill_with;
 use lw_base::NoMemory;
+use lw_pool::Buffer;
 use std::alloc::Global;
 use std::marker::Model;
 
@@ -65,8 +68,25 @@ impl Image {
         self.writes += 1;
     }
 
-    /// Copies `count` blocks from `start` on into a slice of exactly their length.
-    pub fn read_into(&self, start: u64, count: u64, into: &mut [u8])
+    /// Fills a buffer with `count` blocks from `start` on, and with no more. The buffer has room for them, and what it has
+    /// behind them stays as it was.
+    ///
+    /// Of any list of requests that made the image what it is, these are the bytes that a read has behind them.
+    pub fn read_into(&self, start: u64, count: u64, into: &mut Buffer)
+        requires range { HasRange self.now start count }
+        requires fits { count * self.now.block ≤ size_of into.old.class }
+        ensures buffer { (into.new.queue ≡ into.old.queue) × (into.new.class ≡ into.old.class) }
+        ensures filled { into.new.filled ≡ count * self.now.block }
+        ensures read { (past : List (Option Op)) → IsAfter self.now past
+            → filled_bytes into.new ≡ bytes_after self.now.block past start count }
+        ensures behind { drop (count * self.now.block) into.new.bytes ≡ drop (count * self.now.block) into.old.bytes }
+    {
+        let length = self.length(count);
+        self.copy_to(start, count, into.room(length));
+    }
+
+    // Copies `count` blocks from `start` on into a slice of exactly their length.
+    fn copy_to(&self, start: u64, count: u64, into: &mut [u8])
         requires range { HasRange self.now start count }
         requires fits { length into.old ≡ count * self.now.block }
         ensures { (past : List (Option Op)) → IsAfter self.now past

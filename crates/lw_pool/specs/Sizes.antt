@@ -14,7 +14,3 @@ most_users = 127
 
 abbrev pub most_buffers : ℕ
 most_buffers = 1024
-
--- how many buffers a pass can give back: 2^40
-abbrev pub most_given : ℕ
-most_given = 1099511627776

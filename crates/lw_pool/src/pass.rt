@@ -1,7 +1,7 @@
 //! A user's pass: buffers are taken and given back by it.
 ghost use Rattle.std.specs.Prelude.{◌≡◌, ◌+◌, ◌-◌, ◌<◌, ◌≤◌, IfOk, IfErr, OnOk};
 ghost use Rattle.crossbeam_queue.specs.Passes.{view, IsPassOf, IsSamePass, ruled_capacity};
-ghost use Rattle.lw_pool.specs.Sizes.{size_of, most_users, most_given};
+ghost use Rattle.lw_pool.specs.Sizes.{size_of, most_users};
 ghost use Rattle.lw_pool.specs.PoolRule.{lent};
 ghost use Rattle.lw_pool.specs.PoolEnds.{IsOf, queue_of, count_of, given_of, taken_of, lent_of, with_taken, with_given};
 
@@ -80,7 +80,7 @@ impl PoolPass {
     /// Takes a buffer of a class, with nothing filled. It is lent by this pass until it is given back. It takes no memory.
     ///
     /// It is `Empty` only where that class was empty at this call's own step. So a pool's only pass finds it empty exactly
-    /// where it has all buffers of the class out.
+    /// where it has all buffers of the class out; where a pool has more passes, no clause can say it.
     pub fn take<R: Wait>(&mut self, rt: &R, class: Class) -> Result<Buffer, Empty>
         ensures buffer { IfOk result (λ b.
             (b.queue ≡ queue_of class self.old.pool) × (b.class ≡ class) × (b.filled ≡ 0)) }
@@ -98,11 +98,10 @@ impl PoolPass {
 
     /// Gives back a buffer of this pass's pool. It is never refused, and takes no memory.
     ///
-    /// The pass has more buffers of that class out than it has given back, and has given back fewer than 2^40.
+    /// The pass has taken more buffers of that class than it has given back.
     pub fn give_back<R: Wait>(&mut self, rt: &R, buffer: Buffer)
         requires pool { IsOf self.old.pool buffer }
         requires lent { given_of buffer.class self.old < taken_of buffer.class self.old }
-        requires few { self.old.small.given + self.old.large.given < most_given }
         ensures { self.new ≡ with_given buffer.class self.old }
     {
         match buffer.class {

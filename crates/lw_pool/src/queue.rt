@@ -12,8 +12,9 @@ pub struct PoolView {
     pub parts: u64,
     /// How many buffers of the class the pool has.
     pub count: u64,
-    /// How many buffers it has taken, and how many it has given back.
+    /// How many buffers it has taken.
     pub taken: u64,
+    /// How many it has given back.
     pub given: u64,
 }
 
@@ -22,12 +23,14 @@ pub trait Kind {
     ghost size: { ℕ };
 }
 
+/// The class of 8,192 bytes.
 pub struct SmallKind;
 
 impl Kind for SmallKind {
     ghost size = { 8192 };
 }
 
+/// The class of 135,168 bytes.
 pub struct LargeKind;
 
 impl Kind for LargeKind {
@@ -122,6 +125,8 @@ impl Join<PoolView> for Dealing {
     ghost spent = { idle };
 }
 
+/// The free buffers of a class.
 pub type Queue<K> = RuledArrayQueue<Vec<u8>, PoolView, Rule<K>, Global>;
 
+/// What one user knows of such a queue.
 pub type Pass = crossbeam_queue::Pass<Vec<u8>, PoolView>;

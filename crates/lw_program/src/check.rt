@@ -9,6 +9,7 @@ use crate::fault::Fault;
 use lw_base::{Clock, Gate, NoMemory};
 use lw_judge::{REPORT_LIMIT, Verdict, judge_report};
 use std::alloc::Global;
+use std::sync::Wait;
 
 /// What is written of a lawful report.
 const LAWFUL: &str = "lawful\n";
@@ -28,7 +29,7 @@ impl Command for CheckCommand {
         Some(REPORT_LIMIT)
     }
 
-    fn answer<R, C: Clock + Drop, G: Gate>(
+    fn answer<R: Wait, C: Clock + Drop, G: Gate>(
         self,
         _rt: &R,
         alloc: Global,

@@ -11,6 +11,7 @@ use crate::reading::{ReadStop, read_up_to};
 use crate::writing::write_all;
 use lw_base::{Clock, Gate, Sink, Source};
 use std::alloc::Global;
+use std::sync::Wait;
 
 /// What a command tells, with the text of it that is to be written.
 #[derive(Drop)]
@@ -36,7 +37,7 @@ pub trait Command: Drop {
         ensures small { IfSome result (λ limit. limit < 2 ^ 40) };
 
     /// Does it: what it tells of the bytes, with its text, or why they are refused. Reactor c uses clock c.
-    fn answer<R, C: Clock + Drop, G: Gate>(
+    fn answer<R: Wait, C: Clock + Drop, G: Gate>(
         self,
         rt: &R,
         alloc: Global,
@@ -72,7 +73,7 @@ impl<T> Outcome<T> {
 
 /// Carries a command out: reads the source for it, and writes the text of its answer, which is whole before its first
 /// write.
-pub fn carry_out<R, I: Source, O: Sink, C: Clock + Drop, G: Gate, M: Command>(
+pub fn carry_out<R: Wait, I: Source, O: Sink, C: Clock + Drop, G: Gate, M: Command>(
     rt: &R,
     alloc: Global,
     command: M,

@@ -17,13 +17,15 @@ use crate::walk::WalkCommand;
 use crate::words::{CommandLine, command_line};
 use lw_base::{Clock, Gate, NoMemory, Sink, Source};
 use std::alloc::Global;
+use std::sync::Wait;
 
 /// Does what the words ask for, and says how it ended.
 ///
-/// Reactor c uses clock c. No command makes reactors yet, so neither a clock nor the gate is called, and the call
-/// returns. What is said of bytes read and written is said of a source and of a sink that tell them; of others it is said
-/// that there are such bytes. Want of memory is the one end that may always come.
-pub fn lightrun<R, I: Source, O: Sink, C: Clock + Drop, G: Gate>(
+/// Reactor c uses clock c. No command makes reactors yet, so neither a clock nor the gate is called. `run` makes a
+/// pool and takes its two buffers, which may wait; nothing else waits. What is said of bytes read and written is said of a source and
+/// of a sink that tell them; of others it is said that there are such bytes. Want of memory is the one end that may
+/// always come.
+pub fn lightrun<R: Wait, I: Source, O: Sink, C: Clock + Drop, G: Gate>(
     rt: &R,
     alloc: Global,
     words: &[String],
@@ -60,7 +62,7 @@ pub fn lightrun<R, I: Source, O: Sink, C: Clock + Drop, G: Gate>(
 }
 
 // Does what a command asks for, where there was memory to read the words.
-fn obey<R, I: Source, O: Sink, C: Clock + Drop, G: Gate>(
+fn obey<R: Wait, I: Source, O: Sink, C: Clock + Drop, G: Gate>(
     rt: &R,
     alloc: Global,
     asked: Result<Option<CommandLine>, NoMemory>,
@@ -84,7 +86,7 @@ fn obey<R, I: Source, O: Sink, C: Clock + Drop, G: Gate>(
 }
 
 // Does what a command asks for; where there is none the words are usage.
-fn obey_line<R, I: Source, O: Sink, C: Clock + Drop, G: Gate>(
+fn obey_line<R: Wait, I: Source, O: Sink, C: Clock + Drop, G: Gate>(
     rt: &R,
     alloc: Global,
     asked: Option<CommandLine>,
@@ -108,7 +110,7 @@ fn obey_line<R, I: Source, O: Sink, C: Clock + Drop, G: Gate>(
 }
 
 // Carries a command out, and says how it ended.
-fn finish_of<R, I: Source, O: Sink, C: Clock + Drop, G: Gate>(
+fn finish_of<R: Wait, I: Source, O: Sink, C: Clock + Drop, G: Gate>(
     rt: &R,
     alloc: Global,
     line: CommandLine,

@@ -14,6 +14,7 @@ use lw_report_print::print;
 use lw_script::read_script;
 use lw_target::{Options, run_script};
 use std::alloc::Global;
+use std::sync::Wait;
 
 /// How many bytes a script may have: 16 MiB.
 const SCRIPT_LIMIT: usize = 16_777_216;
@@ -46,25 +47,30 @@ impl Command for RunCommand {
         Some(SCRIPT_LIMIT)
     }
 
-    fn answer<R, C: Clock + Drop, G: Gate>(
+    fn answer<R: Wait, C: Clock + Drop, G: Gate>(
         self,
-        _rt: &R,
+        rt: &R,
         alloc: Global,
         bytes: &[u8],
         _clocks: Vec<C>,
         _gate: &G,
     ) -> Result<Told<Record>, Fault> {
-        report_of(alloc, bytes, self.options)
+        report_of(rt, alloc, bytes, self.options)
     }
 }
 
 // The record of a script's bytes, with its text.
-fn report_of(alloc: Global, bytes: &[u8], options: Options) -> Result<Told<Record>, Fault>
+fn report_of<R: Wait>(
+    rt: &R,
+    alloc: Global,
+    bytes: &[u8],
+    options: Options,
+) -> Result<Told<Record>, Fault>
     requires { AreServed options }
     ensures told { IfOk result (λ told. IsRunOf bytes.now told.value × IsRunUnder options told.value × (told.text.items ≡ text_of told.value) × RecordFits told.value) }
     ensures fault { IfErr result (Explains (run_command options) bytes.now) }
 {
-    match record_of(alloc, bytes, options) {
+    match record_of(rt, alloc, bytes, options) {
         Ok(record) => match print(alloc, &record) {
             Ok(text) => Ok(Told {
                 value: record,
@@ -77,13 +83,18 @@ fn report_of(alloc: Global, bytes: &[u8], options: Options) -> Result<Told<Recor
 }
 
 // The record of a script's bytes.
-fn record_of(alloc: Global, bytes: &[u8], options: Options) -> Result<Record, Fault>
+fn record_of<R: Wait>(
+    rt: &R,
+    alloc: Global,
+    bytes: &[u8],
+    options: Options,
+) -> Result<Record, Fault>
     requires { AreServed options }
     ensures record { IfOk result (λ r. IsRunOf bytes.now r × IsRunUnder options r) }
     ensures fault { IfErr result (Explains (run_command options) bytes.now) }
 {
     match read_script(alloc, bytes) {
-        Ok(script) => match run_script(alloc, script, options) {
+        Ok(script) => match run_script(rt, alloc, script, options) {
             Ok(record) => Ok(record),
             Err(_) => Err(Fault::NoMemory),
         },

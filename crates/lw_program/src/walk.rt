@@ -8,6 +8,7 @@ use crate::fault::Fault;
 use lw_base::{Clock, Gate};
 use lw_walk::{Walked, walk_text};
 use std::alloc::Global;
+use std::sync::Wait;
 
 /// How many bytes a walk may have: 16 MiB.
 const WALK_LIMIT: usize = 16_777_216;
@@ -27,7 +28,7 @@ impl Command for WalkCommand {
         Some(WALK_LIMIT)
     }
 
-    fn answer<R, C: Clock + Drop, G: Gate>(
+    fn answer<R: Wait, C: Clock + Drop, G: Gate>(
         self,
         _rt: &R,
         alloc: Global,

@@ -4,6 +4,7 @@ ghost use Rattle.std.specs.Prelude.{◌≡◌, ◌≤◌, vec_len, IfOk};
 use lw_base::{ListClock, MemSink, MemSource, NoMemory, OpenGate};
 use lw_program::{Finish, lightrun};
 use std::alloc::Global;
+use std::sync::Wait;
 
 pub const FIRST: &str =
     "{\"version\":1,\"images\":[{\"name\":\"m\",\"block\":16,\"blocks\":4}],\"clients\":[{\"name\":\"a\",\"depth\":4,\"ops\":[[\"get\",\"m\"],[\"write\",\"m\",0,1,\"ab\"],[\"read\",\"m\",0,1],[\"put\",\"m\"]]}],\"pool\":{\"small\":4,\"large\":1}}";
@@ -40,7 +41,8 @@ pub fn words(alloc: Global, line: &str) -> Result<Vec<String>, NoMemory> {
 }
 
 // Runs the words over a source and a sink that move pieces and fail at one call each, or at none.
-pub fn end_of(
+pub fn end_of<R: Wait>(
+    rt: &R,
     alloc: Global,
     words: &[String],
     bytes: Vec<u8>,
@@ -53,7 +55,7 @@ pub fn end_of(
     let room = Vec::with_capacity(alloc, 131_072)?;
     let mut sink = MemSink::new(room, piece, vec![in alloc; fails.1]?);
     let clocks = clocks(alloc)?;
-    let finish = lightrun(&(), alloc, words, &mut source, &mut sink, clocks, &OpenGate);
+    let finish = lightrun(rt, alloc, words, &mut source, &mut sink, clocks, &OpenGate);
     Ok(Ended {
         finish,
         written: sink.bytes,
@@ -62,11 +64,12 @@ pub fn end_of(
 }
 
 // The same for `run` on a text, with no fault.
-pub fn run_of(alloc: Global, text: &str, piece: usize) -> Result<Ended, NoMemory>
+pub fn run_of<R: Wait>(rt: &R, alloc: Global, text: &str, piece: usize) -> Result<Ended, NoMemory>
     requires { 1 ≤ piece }
 {
     let bytes = String::from_str(alloc, text)?.into_bytes();
     end_of(
+        rt,
         alloc,
         words(alloc, "run")?.as_slice(),
         bytes,

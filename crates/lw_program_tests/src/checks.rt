@@ -3,19 +3,32 @@ use crate::calls::{Ended, FIRST, REPORT, end_of, run_of, words};
 use crate::runs::run_many;
 use lw_base::NoMemory;
 use std::alloc::Global;
+use std::sync::Wait;
 use std::test::Fail;
 
 const LAWFUL: &str = "lawful\n";
 
 // The end of `check` on bytes, with one fault or none.
-fn check_of(alloc: Global, bytes: Vec<u8>, fails: (u64, u64)) -> Result<Ended, NoMemory> {
-    end_of(alloc, words(alloc, "check")?.as_slice(), bytes, 3, fails)
+fn check_of<R: Wait>(
+    rt: &R,
+    alloc: Global,
+    bytes: Vec<u8>,
+    fails: (u64, u64),
+) -> Result<Ended, NoMemory> {
+    end_of(
+        rt,
+        alloc,
+        words(alloc, "check")?.as_slice(),
+        bytes,
+        3,
+        fails,
+    )
 }
 
 // The status, the line of the fault and the text of `check`, where one text of the first report is another.
-fn judged(alloc: Global, from: &str, to: &str) -> Result<String, NoMemory> {
+fn judged<R: Wait>(rt: &R, alloc: Global, from: &str, to: &str) -> Result<String, NoMemory> {
     let report = REPORT.replacen(alloc, from, to, 1)?;
-    let ended = check_of(alloc, report.into_bytes(), (u64::MAX, u64::MAX))?;
+    let ended = check_of(rt, alloc, report.into_bytes(), (u64::MAX, u64::MAX))?;
     let status = ended.finish.status;
     match &ended.finish.fault {
         Some(fault) => format!(in alloc; "{status} {fault}"),
@@ -35,8 +48,8 @@ fn text_of(alloc: Global, bytes: Vec<u8>) -> String {
 
 #[test]
 fn the_report_of_a_run_is_lawful(rt: HostRuntime) -> Result<(), Fail> {
-    let run = run_of(rt.alloc(), FIRST, 100)?;
-    let ended = check_of(rt.alloc(), run.written, (u64::MAX, u64::MAX))?;
+    let run = run_of(&rt, rt.alloc(), FIRST, 100)?;
+    let ended = check_of(&rt, rt.alloc(), run.written, (u64::MAX, u64::MAX))?;
     assert!(rt; ended.finish.status == 0 && ended.finish.told.is_none());
     assert!(rt; ended.written.as_slice() == LAWFUL.as_bytes());
     Ok(())
@@ -98,9 +111,9 @@ fn reports_of_runs_are_lawful(rt: HostRuntime) -> Result<(), Fail> {
             ",[\"put\",\"m\"]",
         ),
     ] {
-        let run = run_many(alloc, depth, ops, times, last)?;
+        let run = run_many(&rt, alloc, depth, ops, times, last)?;
         assert!(rt; run.finish.status == 0, "at {ops}");
-        let ended = check_of(alloc, run.written, (u64::MAX, u64::MAX))?;
+        let ended = check_of(&rt, alloc, run.written, (u64::MAX, u64::MAX))?;
         assert!(rt; ended.finish.status == 0, "at {ops}");
         assert!(rt; ended.written.as_slice() == LAWFUL.as_bytes());
     }
@@ -124,7 +137,7 @@ fn the_first_bad_line_is_of_clause_0(rt: HostRuntime) -> Result<(), Fail> {
         ("end\n", "end", "6 unlawful: clause 0 line 35"),
         ("end\n", "end\n\n", "6 unlawful: clause 0 line 36"),
     ] {
-        let told = judged(rt.alloc(), from, to)?;
+        let told = judged(&rt, rt.alloc(), from, to)?;
         assert!(rt; told.as_str() == line, "at {to}");
     }
     Ok(())
@@ -164,7 +177,7 @@ fn the_first_rule_that_fails_is_told(rt: HostRuntime) -> Result<(), Fail> {
         ),
         ("home 4 1", "home 3 1", "6 unlawful: clause 9 line 34"),
     ] {
-        let told = judged(rt.alloc(), from, to)?;
+        let told = judged(&rt, rt.alloc(), from, to)?;
         assert!(rt; told.as_str() == line, "at {to}");
     }
     Ok(())
@@ -175,7 +188,7 @@ fn a_source_may_fail(rt: HostRuntime) -> Result<(), Fail> {
     let alloc = rt.alloc();
     for call in [0u64, 1, 100] {
         let bytes = String::from_str(alloc, REPORT)?.into_bytes();
-        let unread = check_of(alloc, bytes, (call, u64::MAX))?;
+        let unread = check_of(&rt, alloc, bytes, (call, u64::MAX))?;
         assert!(rt;
             unread.finish.status == 3 && unread.written.is_empty(),
             "at {call}"
@@ -189,7 +202,7 @@ fn a_sink_may_fail(rt: HostRuntime) -> Result<(), Fail> {
     let alloc = rt.alloc();
     for (call, taken) in [(0u64, 0usize), (1, 3), (2, 6)] {
         let bytes = String::from_str(alloc, REPORT)?.into_bytes();
-        let unwritten = check_of(alloc, bytes, (u64::MAX, call))?;
+        let unwritten = check_of(&rt, alloc, bytes, (u64::MAX, call))?;
         assert!(rt; unwritten.finish.status == 4 && unwritten.finish.told.is_none());
         assert!(rt; unwritten.written.len() == taken, "at {call}");
         assert!(rt; LAWFUL.as_bytes().starts_with(unwritten.written.as_slice()));

@@ -2,6 +2,7 @@
 use crate::calls::{FIRST, REPORT, end_of, run_of, words};
 use lw_base::NoMemory;
 use std::alloc::Global;
+use std::sync::Wait;
 use std::test::Fail;
 
 #[test]
@@ -10,7 +11,14 @@ fn a_source_may_fail_at_each_call(rt: HostRuntime) -> Result<(), Fail> {
     let run = words(alloc, "run")?;
     for call in 0..=FIRST.len() {
         let bytes = String::from_str(alloc, FIRST)?.into_bytes();
-        let unread = end_of(alloc, run.as_slice(), bytes, 1, (call as u64, u64::MAX))?;
+        let unread = end_of(
+            &rt,
+            alloc,
+            run.as_slice(),
+            bytes,
+            1,
+            (call as u64, u64::MAX),
+        )?;
         assert!(rt;
             unread.finish.status == 3 && unread.finish.told.is_none(),
             "at {call}"
@@ -26,7 +34,14 @@ fn a_sink_may_fail_at_each_call(rt: HostRuntime) -> Result<(), Fail> {
     let run = words(alloc, "run")?;
     for call in 0..REPORT.len() {
         let bytes = String::from_str(alloc, FIRST)?.into_bytes();
-        let ended = end_of(alloc, run.as_slice(), bytes, 10, (u64::MAX, call as u64))?;
+        let ended = end_of(
+            &rt,
+            alloc,
+            run.as_slice(),
+            bytes,
+            10,
+            (u64::MAX, call as u64),
+        )?;
         let written = ended.written.len();
         if ended.finish.status == 0 {
             assert!(rt; ended.written.as_slice() == REPORT.as_bytes());
@@ -44,8 +59,8 @@ fn a_sink_may_fail_at_each_call(rt: HostRuntime) -> Result<(), Fail> {
 }
 
 // The line of a refused script.
-fn line_of(alloc: Global, text: &str) -> Result<String, NoMemory> {
-    let ended = run_of(alloc, text, 8192)?;
+fn line_of<R: Wait>(rt: &R, alloc: Global, text: &str) -> Result<String, NoMemory> {
+    let ended = run_of(rt, alloc, text, 8192)?;
     match &ended.finish.fault {
         Some(fault) => format!(in alloc; "{} {}", ended.finish.status, fault),
         None => Ok(String::new(alloc)),
@@ -67,17 +82,24 @@ fn refusals_have_their_lines(rt: HostRuntime) -> Result<(), Fail> {
             "2 script: not built",
         ),
     ] {
-        let told = line_of(alloc, text)?;
+        let told = line_of(&rt, alloc, text)?;
         assert!(rt; told.as_str() == line, "at {text}");
     }
     Ok(())
 }
 
 // A script of so many spaces.
-fn line_of_spaces(alloc: Global, count: usize) -> Result<String, NoMemory> {
+fn line_of_spaces<R: Wait>(rt: &R, alloc: Global, count: usize) -> Result<String, NoMemory> {
     let spaces = vec![in alloc; b' '; count]?;
     let run = words(alloc, "run")?;
-    let ended = end_of(alloc, run.as_slice(), spaces, 65536, (u64::MAX, u64::MAX))?;
+    let ended = end_of(
+        rt,
+        alloc,
+        run.as_slice(),
+        spaces,
+        65536,
+        (u64::MAX, u64::MAX),
+    )?;
     match &ended.finish.fault {
         Some(fault) => format!(in alloc; "{}", fault),
         None => Ok(String::new(alloc)),
@@ -87,8 +109,8 @@ fn line_of_spaces(alloc: Global, count: usize) -> Result<String, NoMemory> {
 #[test]
 fn a_script_has_a_limit(rt: HostRuntime) -> Result<(), Fail> {
     let alloc = rt.alloc();
-    assert!(rt; line_of_spaces(alloc, 16_777_216)?.as_str() == "script: not JSON");
-    assert!(rt; line_of_spaces(alloc, 16_777_217)?.as_str() == "script: too long");
+    assert!(rt; line_of_spaces(&rt, alloc, 16_777_216)?.as_str() == "script: not JSON");
+    assert!(rt; line_of_spaces(&rt, alloc, 16_777_217)?.as_str() == "script: too long");
     Ok(())
 }
 
@@ -97,13 +119,13 @@ fn a_source_is_read_to_its_end_and_no_further(rt: HostRuntime) -> Result<(), Fai
     let alloc = rt.alloc();
     for piece in [1usize, 10, 8192] {
         if piece >= 1 {
-            let ended = run_of(alloc, FIRST, piece)?;
+            let ended = run_of(&rt, alloc, FIRST, piece)?;
             let pieces = FIRST.len().div_ceil(piece);
             assert!(rt;
                 ended.reads == (pieces as u64).saturating_add(1),
                 "in pieces of {piece}"
             );
-            let refused = run_of(alloc, "{}", piece)?;
+            let refused = run_of(&rt, alloc, "{}", piece)?;
             assert!(rt; refused.reads == (2usize.div_ceil(piece) as u64).saturating_add(1));
         }
     }

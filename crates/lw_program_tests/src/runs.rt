@@ -2,6 +2,7 @@
 use crate::calls::{Ended, FIRST, REPORT, end_of, run_of, words};
 use lw_base::NoMemory;
 use std::alloc::Global;
+use std::sync::Wait;
 use std::test::Fail;
 
 // A pattern of three bytes over two blocks, in digits of both cases, read from its second block on, at depth 1.
@@ -39,7 +40,7 @@ fn reports_are_whole(rt: HostRuntime) -> Result<(), Fail> {
         ),
     ] {
         let script = FIRST.replacen(alloc, FIRST_OPS, ops, 1)?;
-        let ended = run_of(alloc, script.as_str(), 100)?;
+        let ended = run_of(&rt, alloc, script.as_str(), 100)?;
         let written = ended.written.as_slice();
         assert!(rt; ended.finish.status == 0 && written.starts_with(HEAD.as_bytes()));
         assert!(rt;
@@ -51,7 +52,8 @@ fn reports_are_whole(rt: HostRuntime) -> Result<(), Fail> {
 }
 
 // The run of a get, some ops so many times, and some last ones, at a depth.
-pub(crate) fn run_many(
+pub(crate) fn run_many<R: Wait>(
+    rt: &R,
     alloc: Global,
     depth: &str,
     ops: &str,
@@ -66,7 +68,7 @@ pub(crate) fn run_many(
     all.push_str(last)?;
     let script = FIRST.replacen(alloc, FIRST_OPS, all.as_str(), 1)?;
     let script = script.replacen(alloc, "\"depth\":4", depth, 1)?;
-    run_of(alloc, script.as_str(), 4096)
+    run_of(rt, alloc, script.as_str(), 4096)
 }
 
 // Whether a run was done, and its report has these lines one after the other.
@@ -124,9 +126,35 @@ fn many_ops_are_run(rt: HostRuntime) -> Result<(), Fail> {
             "did 991 998 sent\ndid 998 999 deferred\ndid 998 1000 closed\nreply 1 ok\n",
         ),
     ] {
-        let ended = run_many(alloc, depth, ops, times, last)?;
+        let ended = run_many(&rt, alloc, depth, ops, times, last)?;
         assert!(rt; reports(ended, lines), "at {lines}");
     }
+    Ok(())
+}
+
+// Reads of 8,192 and of 12,288 bytes, each of which goes through a buffer of another class.
+const LONG: &str =
+    "{\"version\":1,\"images\":[{\"name\":\"m\",\"block\":4096,\"blocks\":4}],\"clients\":[{\"name\":\"a\",\"depth\":8,\"ops\":[[\"get\",\"m\"],[\"write\",\"m\",0,1,\"ab\"],[\"write\",\"m\",1,2,\"cd\"],[\"read\",\"m\",0,2],[\"read\",\"m\",0,3],[\"put\",\"m\"]]}],\"pool\":{\"small\":4,\"large\":1}}";
+
+#[test]
+fn long_reads_are_answered(rt: HostRuntime) -> Result<(), Fail> {
+    let alloc = rt.alloc();
+    let first = "ab".repeat(alloc, 4096)?;
+    let second = "cd".repeat(alloc, 4096)?;
+    let mut lines = String::from_str(alloc, "reply 1 ok\nreply 2 ok\nreply 3 bytes ")?;
+    for block in [
+        first.as_str(),
+        second.as_str(),
+        "\nreply 4 bytes ",
+        first.as_str(),
+        second.as_str(),
+        second.as_str(),
+        "\nthread 2",
+    ] {
+        lines.push_str(block)?;
+    }
+    let ended = run_of(&rt, alloc, LONG, 4096)?;
+    assert!(rt; reports(ended, lines.as_str()));
     Ok(())
 }
 
@@ -134,7 +162,7 @@ fn many_ops_are_run(rt: HostRuntime) -> Result<(), Fail> {
 fn the_first_script_is_reported(rt: HostRuntime) -> Result<(), Fail> {
     for piece in [1usize, 10, 8192] {
         if piece >= 1 {
-            let ended = run_of(rt.alloc(), FIRST, piece)?;
+            let ended = run_of(&rt, rt.alloc(), FIRST, piece)?;
             assert!(rt; ended.finish.status == 0 && ended.finish.told.is_some());
             assert!(rt; ended.written.as_slice() == REPORT.as_bytes());
         }
@@ -144,7 +172,7 @@ fn the_first_script_is_reported(rt: HostRuntime) -> Result<(), Fail> {
 
 #[test]
 fn a_pattern_goes_on_over_blocks(rt: HostRuntime) -> Result<(), Fail> {
-    let ended = run_of(rt.alloc(), SECOND, 100)?;
+    let ended = run_of(&rt, rt.alloc(), SECOND, 100)?;
     assert!(rt; ended.finish.status == 0);
     assert!(rt; ended.written.as_slice() == SECOND_REPORT.as_bytes());
     Ok(())
@@ -155,7 +183,14 @@ fn the_report_has_the_period_of_the_words(rt: HostRuntime) -> Result<(), Fail> {
     let alloc = rt.alloc();
     let run = words(alloc, "run --period 0000777")?;
     let bytes = String::from_str(alloc, FIRST)?.into_bytes();
-    let ended = end_of(alloc, run.as_slice(), bytes, 8192, (u64::MAX, u64::MAX))?;
+    let ended = end_of(
+        &rt,
+        alloc,
+        run.as_slice(),
+        bytes,
+        8192,
+        (u64::MAX, u64::MAX),
+    )?;
     let front = "lightrun report 1\nscheduler static\nreactors 1\nperiod 777\npool 4 1\n";
     assert!(rt; ended.finish.status == 0);
     assert!(rt; ended.written.as_slice().starts_with(front.as_bytes()));

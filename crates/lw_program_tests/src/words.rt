@@ -2,12 +2,14 @@
 use crate::calls::{end_of, words};
 use lw_base::NoMemory;
 use std::alloc::Global;
+use std::sync::Wait;
 use std::test::Fail;
 
 // The status of words over a source of no bytes.
-fn status_of(alloc: Global, line: &str) -> Result<u8, NoMemory> {
+fn status_of<R: Wait>(rt: &R, alloc: Global, line: &str) -> Result<u8, NoMemory> {
     let words = words(alloc, line)?;
     let ended = end_of(
+        rt,
         alloc,
         words.as_slice(),
         Vec::new(alloc),
@@ -28,7 +30,7 @@ fn the_words_of_the_table_are_commands(rt: HostRuntime) -> Result<(), Fail> {
         "run --scheduler static --reactors 01 --beside=000 --period 1",
         "run --beside 0 --reactors=1 --scheduler=static",
     ] {
-        assert_eq!(rt; status_of(rt.alloc(), line)?, 2, "{line}");
+        assert_eq!(rt; status_of(&rt, rt.alloc(), line)?, 2, "{line}");
     }
     Ok(())
 }
@@ -86,9 +88,9 @@ fn other_words_are_usage(rt: HostRuntime) -> Result<(), Fail> {
         "run --reactors 17",
         "run --beside 1",
     ] {
-        assert_eq!(rt; status_of(alloc, line)?, 1, "{line}");
+        assert_eq!(rt; status_of(&rt, alloc, line)?, 1, "{line}");
     }
-    let none = end_of(alloc, &[], Vec::new(alloc), 1, (0, 0))?;
+    let none = end_of(&rt, alloc, &[], Vec::new(alloc), 1, (0, 0))?;
     assert!(rt; none.finish.status == 1 && none.written.is_empty());
     Ok(())
 }
@@ -100,7 +102,7 @@ fn words_that_are_not_served_yet_are_usage(rt: HostRuntime) -> Result<(), Fail> 
         "run --reactors 2",
         "run --reactors=2 --beside 1",
     ] {
-        assert_eq!(rt; status_of(rt.alloc(), line)?, 1, "{line}");
+        assert_eq!(rt; status_of(&rt, rt.alloc(), line)?, 1, "{line}");
     }
     Ok(())
 }

@@ -9,6 +9,7 @@ use lw_script::{ScriptRefusal, read_script};
 use lw_target::{Options, run_script};
 use std::alloc::{AllocError, Global};
 use std::str;
+use std::sync::Wait;
 use std::test::Fail;
 
 // One reactor, which the caller turns.
@@ -24,9 +25,9 @@ fn caller_alone() -> Options
 }
 
 // The report of the run of a script, from its bytes.
-fn run(alloc: Global, bytes: &[u8]) -> Result<Vec<u8>, ScriptRefusal> {
+fn run<R: Wait>(rt: &R, alloc: Global, bytes: &[u8]) -> Result<Vec<u8>, ScriptRefusal> {
     let script = read_script(alloc, bytes)?;
-    match run_script(alloc, script, caller_alone()) {
+    match run_script(rt, alloc, script, caller_alone()) {
         Ok(record) => match print(alloc, &record) {
             Ok(report) => Ok(report),
             Err(_) => Err(ScriptRefusal::NoMemory),
@@ -91,7 +92,7 @@ fn each_thread_runs_and_does_what_the_ops_ask(rt: HostRuntime) -> Result<(), Fai
     ];
     for (depth, ops, wanted) in cases {
         let script = script(alloc, depth, ops)?;
-        let report = run(alloc, script.as_bytes())?;
+        let report = run(&rt, alloc, script.as_bytes())?;
         assert!(rt; report.as_slice().ends_with(wanted.as_bytes()), "{ops}");
     }
     Ok(())
@@ -106,7 +107,7 @@ fn eighteen_reads_go_four_at_a_time(rt: HostRuntime) -> Result<(), Fail> {
     }
     ops.push_str(r#"["put","m"]"#)?;
     let script = script(alloc, 4, ops.as_str())?;
-    let report = run(alloc, script.as_bytes())?;
+    let report = run(&rt, alloc, script.as_bytes())?;
     let told = str::from_utf8(report.as_slice()).unwrap_or("");
     assert!(rt;
         told.contains(

@@ -15,7 +15,7 @@ use Rattle.lw_model.specs.declared.refusal.ScriptRefusal.TheVariants.{Name, Rang
 use Rattle.lw_model.specs.ScriptRules.{is_within, has_depths, Placed, placed_ops, first_failing, first_out_of_range, first_bad_pattern, is_in_range, is_in_range_after, is_pattern, read_bytes, rule_broken, rule_answers, has_names, names_an_image, all_ops}
 use Rattle.lw_script_rules.specs.Served.{is_served, is_basic}
 use Rattle.lw_model.proofs.Rules.{each-none, kept, each_passes}
-use Rattle.lw_target.specs.Messages.{IsWithin, operands}
+use Rattle.lw_target.specs.Messages.{stated_extent, IsWithin, operands}
 use Rattle.lw_target.specs.Ops.{asks_bytes, is_servable}
 use Rattle.lw_target.specs.Turns.{OpsFit}
 
@@ -65,18 +65,22 @@ servable_op image client small large (op.Unregister d) b n = let wrong : false �
 abbrev IsInRange : Script → Op → Type 0
 IsInRange s o = (bytes : ℕ) × (is_in_range_after s bytes o ≡ true)
 
-in_image : (d start count blocks rest : ℕ) → (nat_lt 0 count && nat_le (start + count) blocks && nat_le rest 131072) ≡ true → (0 < count) × (start + count ≤ blocks)
+in_image : (d start count blocks rest : ℕ) → (nat_lt 0 count && nat_le (start + count) blocks && nat_le rest 131072) ≡ true
+    → (0 < count) × (start + count ≤ blocks) × (rest ≤ 131072)
 in_image d start count blocks rest e =
-    let both = and_first (nat_lt 0 count && nat_le (start + count) blocks) (nat_le rest 131072) e in
-    (ltb-true 0 count (and_first (nat_lt 0 count) (nat_le (start + count) blocks) both), leb-true (start + count) blocks (and_second (nat_lt 0 count) (nat_le (start + count) blocks) both))
+    let both = and_first (nat_lt 0 count && nat_le (start + count) blocks) (nat_le rest 131072) e in (
+      ltb-true 0 count (and_first (nat_lt 0 count) (nat_le (start + count) blocks) both),
+      leb-true (start + count) blocks (and_second (nat_lt 0 count) (nat_le (start + count) blocks) both),
+      leb-true rest 131072 (and_second (nat_lt 0 count && nat_le (start + count) blocks) (nat_le rest 131072) e),
+    )
 
 in_image_read : (start count blocks rest bytes : ℕ) → ((nat_lt 0 count && nat_le (start + count) blocks && nat_le rest 131072) && nat_le bytes 16777216) ≡ true
-    → (0 < count) × (start + count ≤ blocks)
+    → (0 < count) × (start + count ≤ blocks) × (rest ≤ 131072)
 in_image_read start count blocks rest bytes e =
     in_image 0 start count blocks rest (and_first (nat_lt 0 count && nat_le (start + count) blocks && nat_le rest 131072) (nat_le bytes 16777216) e)
 
 within_op : (image : ImageOf) (client : ClientOf) (small large : ℕ) (o : Op) → is_servable 1 o ≡ true
-    → IsInRange (one image client small large) o × (is_pattern o ≡ true) → asks_bytes o ≡ true → IsWithin image.blocks (operands o)
+    → IsInRange (one image client small large) o × (is_pattern o ≡ true) → asks_bytes o ≡ true → IsWithin (stated_extent image) (operands o)
 within_op image client small large (op.Write zero start count pattern) n (r, p) a =
     let fits = in_image zero start count image.blocks (count * image.block) r.1 in
     (fits.0, fits.1, leb-true 1 (length pattern) (and_first (nat_le 1 (length pattern)) (nat_le (length pattern) 64) p))
@@ -102,15 +106,15 @@ serves_one image client small large e served =
     (all_of_test (names_an_image s) client.ops (and_second _ (list_all (names_an_image s) (client.ops ++ [])) names))
 
 fits_one : (image : ImageOf) (client : ClientOf) (small large : ℕ) → rule_broken (one image client small large) ≡ None
-    → is_served (one image client small large) ≡ true → OpsFit image.blocks client.ops
+    → is_served (one image client small large) ≡ true → OpsFit (stated_extent image) client.ops
 fits_one image client small large e served =
     let s = one image client small large in
     let range = each_op image client small large (is_in_range s) (IsInRange s) (λ before o t. (sum_by (read_bytes s) before, t))
     (none_mapped (λ p. Range p.client p.place) (first_out_of_range s) (each-none (rule_answers s) 10 _ e refl)) in
     let pattern = each_op image client small large (λ _. is_pattern) (λ o. is_pattern o ≡ true) (λ before o t. t)
     (none_mapped (λ p. Pattern p.client p.place) (first_bad_pattern s) (each-none (rule_answers s) 11 _ e refl)) in
-    All-from_recursion (λ o. asks_bytes o ≡ true → IsWithin image.blocks (operands o)) client.ops
-    (zip_all (λ o. is_servable 1 o ≡ true) (λ o. IsInRange s o × (is_pattern o ≡ true)) (λ o. asks_bytes o ≡ true → IsWithin image.blocks (operands o))
+    All-from_recursion (λ o. asks_bytes o ≡ true → IsWithin (stated_extent image) (operands o)) client.ops
+    (zip_all (λ o. is_servable 1 o ≡ true) (λ o. IsInRange s o × (is_pattern o ≡ true)) (λ o. asks_bytes o ≡ true → IsWithin (stated_extent image) (operands o))
     (λ o n r. within_op image client small large o n r) client.ops (serves_one image client small large e served)
     (zip_all (IsInRange s) (λ o. is_pattern o ≡ true) (λ o. IsInRange s o × (is_pattern o ≡ true)) (λ o r q. (r, q)) client.ops range pattern))
 
@@ -147,7 +151,7 @@ serves s image client e served f g =
     (serves_one image client s.small s.large (subst (λ r. rule_broken r ≡ None) is e) (subst (λ r. is_served r ≡ true) is served))
 
 pub ops_fit : (s : Script) (image : ImageOf) (client : ClientOf) → rule_broken s ≡ None → is_served s ≡ true
-    → s.images ≡ image ∷ [] → s.clients ≡ client ∷ [] → OpsFit image.blocks client.ops
+    → s.images ≡ image ∷ [] → s.clients ≡ client ∷ [] → OpsFit (stated_extent image) client.ops
 ops_fit s image client e served f g =
     let is = script_is s image client f g in
     fits_one image client s.small s.large (subst (λ r. rule_broken r ≡ None) is e) (subst (λ r. is_served r ≡ true) is served)

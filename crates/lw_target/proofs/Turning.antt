@@ -12,8 +12,8 @@ use Rattle.lw_target.specs.declared.mail.Load.{Load}
 use Rattle.lw_target.specs.declared.acts.Outgoing.{Outgoing}
 use Rattle.lw_target.specs.declared.posts.Posts.{Posts}
 use Rattle.lw_target.specs.declared.turns.Target.{Target}
-use Rattle.lw_image.specs.Image.{SameSize}
-use Rattle.lw_target.specs.Messages.{Asked, FitsImage, IsWithin, AllFit, AllMayGo, operands, asked_work, waiting_work, weight}
+use Rattle.lw_image.specs.Image.{Contents, SameSize}
+use Rattle.lw_target.specs.Messages.{Asked, Extent, extent_of, FitsImage, IsWithin, AllFit, AllMayGo, operands, asked_work, waiting_work, weight}
 use Rattle.lw_target.specs.Ops.{IsOfOps, AllOfOps, asks_bytes}
 use Rattle.lw_target.specs.App.{Advance, IsStop}
 use Rattle.lw_target.specs.Client.{Progress}
@@ -41,28 +41,28 @@ at_place P xs k x found all =
     subst P (same_Some (get_or xs k x) x (sym (slice_get-get_or xs k x within) ∙ found)) (All-get_or P xs k x within all)
 
 -- a request of ops that fit the image fits it
-pub may_go_of_op : (blocks : ℕ) (ops : List Op) (to : ℕ) (w : What) (carried : Load) → OpsFit blocks ops
-    → IsOfOps ops (record { to = to; what = w; load = carried }) → FitsImage blocks w carried
-may_go_of_op blocks ops to (what.Request k) carried fits of =
-    rw of.3 (at_place (λ o. asks_bytes o ≡ true → IsWithin blocks (operands o)) ops k of.0 of.1 fits of.2)
-may_go_of_op blocks ops to (what.Reply k) carried fits of = tt
-may_go_of_op blocks ops to (what.PutSelf d) carried fits of = tt
-may_go_of_op blocks ops to (what.Visit a b d) carried fits of = tt
-may_go_of_op blocks ops to (what.Visited k) carried fits of = tt
-may_go_of_op blocks ops to (what.Cast a b) carried fits of = tt
-may_go_of_op blocks ops to (what.Casted k) carried fits of = tt
-may_go_of_op blocks ops to what.Done carried fits of = tt
-may_go_of_op blocks ops to what.Stop carried fits of = tt
-may_go_of_op blocks ops to (what.Arrive a b) carried fits of = tt
-may_go_of_op blocks ops to (what.Order a b d) carried fits of = tt
+pub may_go_of_op : (extent : Extent) (ops : List Op) (to : ℕ) (w : What) (carried : Load) → OpsFit extent ops
+    → IsOfOps ops (record { to = to; what = w; load = carried }) → FitsImage extent w carried
+may_go_of_op extent ops to (what.Request k) carried fits of =
+    rw of.3 (at_place (λ o. asks_bytes o ≡ true → IsWithin extent (operands o)) ops k of.0 of.1 fits of.2)
+may_go_of_op extent ops to (what.Reply k) carried fits of = tt
+may_go_of_op extent ops to (what.PutSelf d) carried fits of = tt
+may_go_of_op extent ops to (what.Visit a b d) carried fits of = tt
+may_go_of_op extent ops to (what.Visited k) carried fits of = tt
+may_go_of_op extent ops to (what.Cast a b) carried fits of = tt
+may_go_of_op extent ops to (what.Casted k) carried fits of = tt
+may_go_of_op extent ops to what.Done carried fits of = tt
+may_go_of_op extent ops to what.Stop carried fits of = tt
+may_go_of_op extent ops to (what.Arrive a b) carried fits of = tt
+may_go_of_op extent ops to (what.Order a b d) carried fits of = tt
 
-may_go : (blocks : ℕ) (ops : List Op) (sends : List Outgoing) → OpsFit blocks ops → AllOfOps ops sends → AllMayGo blocks sends
-may_go blocks ops sends fits all =
-    All-weaker (IsOfOps ops) (λ (s : Outgoing). FitsImage blocks s.what s.load) (λ s of. may_go_of_op blocks ops s.to s.what s.load fits of) sends all
+may_go : (extent : Extent) (ops : List Op) (sends : List Outgoing) → OpsFit extent ops → AllOfOps ops sends → AllMayGo extent sends
+may_go extent ops sends fits all =
+    All-weaker (IsOfOps ops) (λ (s : Outgoing). FitsImage extent s.what s.load) (λ s of. may_go_of_op extent ops s.to s.what s.load fits of) sends all
 
 -- a stop fits any owner
-stop_goes : (blocks : ℕ) (s : Outgoing) → IsStop s → FitsImage blocks s.what s.load
-stop_goes blocks s e = subst (λ w. FitsImage blocks w s.load) (sym e) tt
+stop_goes : (extent : Extent) (s : Outgoing) → IsStop s → FitsImage extent s.what s.load
+stop_goes extent s e = subst (λ w. FitsImage extent w s.load) (sym e) tt
 
 -- a client that has told the app has nothing left to do
 none_left : (s : Script) (c : Client) (ran : List Tag) → Follows s c ran → c.done ≡ true → client_work c ≡ 0
@@ -99,9 +99,9 @@ client_turned old new before after worked r p none at went rests carried asked a
         client_devices = devices ∙ r.client_devices ∙ sym p.channels;
         senders = carried.senders r.senders;
         asked = asked;
-        ops = subst (λ o. OpsFit o.image.blocks new.client.of.ops) (sym owner) (subst (λ o. OpsFit old.owner.image.blocks o.ops) (sym p.of) r.ops);
-        fits = subst (λ o. AllFit o.image.blocks new.posts.owner.waiting) (sym owner)
-            (carried.fits old.owner.image.blocks r.fits (may_go old.owner.image.blocks old.client.of.ops after.sends r.ops sends));
+        ops = subst (λ o. OpsFit (extent_of o.image) new.client.of.ops) (sym owner) (subst (λ o. OpsFit (extent_of old.owner.image) o.ops) (sym p.of) r.ops);
+        fits = subst (λ o. AllFit (extent_of o.image) new.posts.owner.waiting) (sym owner)
+            (carried.fits (extent_of old.owner.image) r.fits (may_go (extent_of old.owner.image) old.client.of.ops after.sends r.ops sends));
         block = subst (λ o. 0 < o.image.block) (sym owner) r.block;
         writes = omega (arith, r.writes, ap (λ o. o.image.writes) owner, ap length carried.owner.ran);
       };
@@ -139,10 +139,10 @@ app_turned old new before after worked r p none at early ended over carried aske
         client_devices = devices ∙ r.client_devices ∙ sym (ap (λ c. vec_len c.channels) client);
         senders = carried.senders r.senders;
         asked = asked;
-        ops = subst (λ o. OpsFit o.image.blocks new.client.of.ops) (sym owner) (subst (λ c. OpsFit old.owner.image.blocks c.of.ops) (sym client) r.ops);
-        fits = subst (λ o. AllFit o.image.blocks new.posts.owner.waiting) (sym owner)
-            (carried.fits old.owner.image.blocks r.fits
-            (All-weaker IsStop (λ (s : Outgoing). FitsImage old.owner.image.blocks s.what s.load) (stop_goes old.owner.image.blocks) after.sends sends));
+        ops = subst (λ o. OpsFit (extent_of o.image) new.client.of.ops) (sym owner) (subst (λ c. OpsFit (extent_of old.owner.image) c.of.ops) (sym client) r.ops);
+        fits = subst (λ o. AllFit (extent_of o.image) new.posts.owner.waiting) (sym owner)
+            (carried.fits (extent_of old.owner.image) r.fits
+            (All-weaker IsStop (λ (s : Outgoing). FitsImage (extent_of old.owner.image) s.what s.load) (stop_goes (extent_of old.owner.image)) after.sends sends));
         block = subst (λ o. 0 < o.image.block) (sym owner) r.block;
         writes = omega (arith, r.writes, ap (λ o. o.image.writes) owner, ap length carried.owner.ran);
       };
@@ -163,23 +163,28 @@ app_turned old new before after worked r p none at early ended over carried aske
       work = omega (arith, p.work, none_asked, carried.work, ap client_work client);
     }
 
+-- images of one size are of one extent
+same_extent : (old new : Contents) → SameSize old new → extent_of new ≡ extent_of old
+same_extent old new size = λ i. record { blocks = size.1 i; block = size.0 i }
+
 -- the owner runs a message, and its replies are carried
 pub owner_turned : (old new : Target) (taken : Posts) (mail : Mail) (before after : Asked) → IsRunning old
     → Serves old.owner new.owner mail before.sends after.sends
     → old.posts.owner.waiting ≡ mail ∷ taken.owner.waiting → taken.owner.ran ≡ old.posts.owner.ran ++ mail.tag ∷ []
     → taken.owner.sent ≡ old.posts.owner.sent → taken.app ≡ old.posts.app → taken.client ≡ old.posts.client
     → before.sends ≡ [] → SameSize old.owner.image new.owner.image → new.owner.image.writes ≤ old.owner.image.writes + 1
-    → ((blocks : ℕ) → AllMayGo blocks before.sends → AllMayGo blocks after.sends)
+    → ((extent : Extent) → AllMayGo extent before.sends → AllMayGo extent after.sends)
     → asked_work after.sends + 1 ≤ asked_work before.sends + weight mail.tag.what
     → Carried 2 taken new.posts after.sends → new.acts.sends ≡ []
     → new.app ≡ old.app → new.client ≡ old.client → new.devices ≡ old.devices → Turned old new 1
 owner_turned old new taken mail before after r serves first ran sent app_post client_post none size writes replies did carried asked app client same_devices =
     let devices : vec_len new.devices ≡ vec_len old.devices = ap vec_len same_devices in
-    let fit = λ (m : Mail). FitsImage old.owner.image.blocks m.tag.what m.load in
-    let go = λ (s : Outgoing). FitsImage old.owner.image.blocks s.what s.load in
+    let extent : extent_of new.owner.image ≡ extent_of old.owner.image = same_extent old.owner.image new.owner.image size in
+    let fit = λ (m : Mail). FitsImage (extent_of old.owner.image) m.tag.what m.load in
+    let go = λ (s : Outgoing). FitsImage (extent_of old.owner.image) s.what s.load in
     let none_asked : asked_work before.sends ≡ 0 = ap asked_work none in
     let rest = All-rest fit mail taken.owner.waiting old.posts.owner.waiting first r.fits in
-    let sends = replies old.owner.image.blocks (All-same go before.sends [] none (All-nil go)) in
+    let sends = replies (extent_of old.owner.image) (All-same go before.sends [] none (All-nil go)) in
     let app_work_same : waiting_work taken.app.waiting ≡ waiting_work old.posts.app.waiting = ap (λ p. waiting_work p.waiting) app_post in
     let client_work_same : waiting_work taken.client.waiting ≡ waiting_work old.posts.client.waiting = ap (λ p. waiting_work p.waiting) client_post in
     let one_ran : length taken.owner.ran ≡ length old.posts.owner.ran + 1 = ap length ran ∙ length-append old.posts.owner.ran (mail.tag ∷ []) in
@@ -192,8 +197,8 @@ owner_turned old new taken mail before after r serves first ran sent app_post cl
         senders = carried.senders
             (ap (λ p. length p.sent) app_post ∙ r.senders.0, ap (λ p. length p.sent) client_post ∙ r.senders.1, ap length sent ∙ r.senders.2);
         asked = asked;
-        ops = subst (λ b. OpsFit b new.client.of.ops) (sym size.1) (subst (λ c. OpsFit old.owner.image.blocks c.of.ops) (sym client) r.ops);
-        fits = subst (λ b. AllFit b new.posts.owner.waiting) (sym size.1) (carried.fits old.owner.image.blocks rest sends);
+        ops = subst (λ b. OpsFit b new.client.of.ops) (sym extent) (subst (λ c. OpsFit (extent_of old.owner.image) c.of.ops) (sym client) r.ops);
+        fits = subst (λ b. AllFit b new.posts.owner.waiting) (sym extent) (carried.fits (extent_of old.owner.image) rest sends);
         block = omega (arith, size.0, r.block);
         writes = omega (arith, r.writes, writes, ap length carried.owner.ran, one_ran);
       };

@@ -6,7 +6,7 @@ use Rattle.lw_model.specs.declared.script.Script.{Script}
 use Rattle.lw_target.specs.declared.acts.Outgoing.{Outgoing}
 use Rattle.lw_target.specs.declared.posts.Posts.{Posts}
 use Rattle.lw_target.specs.declared.turns.Target.{Target}
-use Rattle.lw_target.specs.Messages.{Inbox, AllFit, AllMayGo, IsWithin, operands, waiting_work, asked_work}
+use Rattle.lw_target.specs.Messages.{Inbox, Extent, extent_of, AllFit, AllMayGo, IsWithin, operands, waiting_work, asked_work}
 use Rattle.lw_target.specs.ClientLog.{IsHeldUp}
 use Rattle.lw_target.specs.Letters.{Got, letters, posted}
 use Rattle.lw_target.specs.InOrder.{IsInOrder}
@@ -14,8 +14,8 @@ use Rattle.lw_target.specs.Ops.{asks_bytes}
 use Rattle.lw_target.specs.Work.{client_work, app_work}
 
 -- each request of the ops is one within the image
-abbrev pub OpsFit : ℕ → List Op → Type 0
-OpsFit blocks ops = All (λ o. asks_bytes o ≡ true → IsWithin blocks (operands o)) ops
+abbrev pub OpsFit : Extent → List Op → Type 0
+OpsFit extent ops = All (λ o. asks_bytes o ≡ true → IsWithin extent (operands o)) ops
 
 abbrev pub posts_work : Posts → ℕ
 posts_work p = waiting_work p.app.waiting + waiting_work p.client.waiting + waiting_work p.owner.waiting
@@ -35,7 +35,7 @@ pub record Carried (sender : ℕ) (old new : Posts) (sends : List Outgoing) : Ty
   pub owner : Got old.owner new.owner (posted 2 sender sends)
   pub senders : HasSenders old → HasSenders new
   pub work : posts_work new ≡ posts_work old + asked_work sends
-  pub fits : (blocks : ℕ) → AllFit blocks old.owner.waiting → AllMayGo blocks sends → AllFit blocks new.owner.waiting
+  pub fits : (extent : Extent) → AllFit extent old.owner.waiting → AllMayGo extent sends → AllFit extent new.owner.waiting
 
 -- what holds between the polls of the threads
 pub record IsRunning (t : Target) : Type 0 where
@@ -43,8 +43,8 @@ pub record IsRunning (t : Target) : Type 0 where
   pub client_devices : vec_len t.devices ≡ vec_len t.client.channels
   pub senders : HasSenders t.posts
   pub asked : t.acts.sends ≡ []
-  pub ops : OpsFit t.owner.image.blocks t.client.of.ops
-  pub fits : AllFit t.owner.image.blocks t.posts.owner.waiting
+  pub ops : OpsFit (extent_of t.owner.image) t.client.of.ops
+  pub fits : AllFit (extent_of t.owner.image) t.posts.owner.waiting
   pub block : 0 < t.owner.image.block
   pub writes : t.owner.image.writes ≤ length t.posts.owner.ran
 

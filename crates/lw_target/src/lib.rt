@@ -6,6 +6,7 @@ mod action;
 mod acts;
 mod admission;
 mod app;
+mod buffers;
 mod channel;
 mod client;
 mod device;

@@ -4,42 +4,49 @@ ghost use Rattle.lw_model.specs.Printable.{has_bytes};
 ghost use Rattle.lw_model.specs.Replay.{bytes_after};
 ghost use Rattle.lw_model.specs.declared.script.Op.{Op};
 ghost use Rattle.lw_image.specs.Image.{IsAfter, SameSize, HasRange};
-ghost use Rattle.lw_target.specs.Messages.{FitsImage, IsWithin, AllMayGo, IsPrintable, asked_work, weight};
+ghost use Rattle.lw_target.specs.Messages.{Extent, FitsImage, IsWithin, extent_of, AllMayGo, IsPrintable, asked_work, weight};
 ghost use Rattle.lw_target.specs.Owner.{Serves, AnswersAs};
 
 use crate::acts::Acts;
+use crate::buffers::Buffers;
 use crate::mail::{Load, Mail};
 use lw_base::{NoMemory, What};
 use lw_image::Image;
-use lw_model::{Items, Replied};
+use lw_model::Replied;
 use std::alloc::Global;
 
 /// The owner of one image.
 #[derive(Drop)]
 pub struct Owner {
+    /// Its image.
     pub image: Image,
+    /// Whether it has run its stop.
     pub ended: bool,
+    /// What it reads into.
+    pub buffers: Buffers,
 }
 
 impl Owner {
-    pub fn new(image: Image) -> Self
-        ensures { result ≡ record { image = image; ended = false } }
+    /// An owner that has run nothing.
+    pub fn new(image: Image, buffers: Buffers) -> Self
+        ensures { result ≡ record { image = image; ended = false; buffers = buffers } }
     {
         Owner {
             image,
             ended: false,
+            buffers,
         }
     }
 
     /// Runs a message: a request is answered to its sender at once, and after a stop the owner asks to end.
     pub fn run(&mut self, alloc: Global, mail: Mail, acts: &mut Acts) -> Result<(), NoMemory>
-        requires fits { FitsImage self.old.image.blocks mail.tag.what mail.load }
+        requires fits { FitsImage (extent_of self.old.image) mail.tag.what mail.load }
         requires block { 0 < self.old.image.block }
         requires room { self.old.image.writes + 1 < 2 ^ 64 }
         ensures size { SameSize self.old.image self.new.image }
         ensures writes { self.new.image.writes ≤ self.old.image.writes + 1 }
         ensures sends { OnOk result (Serves self.old self.new mail acts.old.sends acts.new.sends) }
-        ensures replies { OnOk result ((blocks : ℕ) → AllMayGo blocks acts.old.sends → AllMayGo blocks acts.new.sends) }
+        ensures replies { OnOk result ((extent : Extent) → AllMayGo extent acts.old.sends → AllMayGo extent acts.new.sends) }
         ensures work { OnOk result (asked_work acts.new.sends + 1 ≤ asked_work acts.old.sends + weight mail.tag.what) }
         ensures ran { OnOk result (acts.new.ran ≡ acts.old.ran) }
     {
@@ -57,7 +64,7 @@ impl Owner {
     }
 
     fn answer(&mut self, alloc: Global, load: Load) -> Result<Replied, NoMemory>
-        requires within { IsWithin self.old.image.blocks load }
+        requires within { IsWithin (extent_of self.old.image) load }
         requires block { 0 < self.old.image.block }
         requires room { self.old.image.writes + 1 < 2 ^ 64 }
         ensures size { SameSize self.old.image self.new.image }
@@ -75,12 +82,10 @@ impl Owner {
                 self.image.write(start, count, pattern.as_slice());
                 Ok(Replied::Ok)
             }
-            Load::Read { start, count } => Ok(Replied::Bytes(read(
-                alloc,
-                &self.image,
-                start,
-                count,
-            )?)),
+            Load::Read { start, count } => {
+                let bytes = self.buffers.read(alloc, &self.image, start, count)?;
+                Ok(Replied::Bytes(bytes))
+            }
             _ => unreachable!(),
         }
     }
@@ -91,18 +96,4 @@ impl Owner {
     {
         self.ended
     }
-}
-
-// The bytes of a range, in a vector of their own.
-fn read(alloc: Global, image: &Image, start: u64, count: u64) -> Result<Items<u8>, NoMemory>
-    requires range { HasRange image.now start count }
-    requires block { 0 < image.now.block }
-    ensures bytes { IfOk result (λ bytes. (past : List (Option Op)) → IsAfter image.now past
-        → bytes ≡ bytes_after image.now.block past start count) }
-    ensures length { IfOk result (λ bytes. 0 < length bytes) }
-{
-    let length = image.length(count);
-    let mut bytes = vec![in alloc; 0; length]?;
-    image.read_into(start, count, &mut bytes);
-    Ok(Items::from_vec(bytes))
 }

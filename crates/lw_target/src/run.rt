@@ -6,6 +6,7 @@ ghost use Rattle.lw_model.specs.ScriptRules.{rule_broken};
 ghost use Rattle.lw_model.specs.Lawful.{Lawful};
 ghost use Rattle.lw_script_rules.specs.Served.{is_served};
 ghost use Rattle.lw_target.specs.Options.{AreServed};
+ghost use Rattle.lw_target.specs.Messages.{stated_extent};
 ghost use Rattle.lw_target.specs.Ops.{is_servable};
 ghost use Rattle.lw_target.specs.Turns.{OpsFit, IsRunning};
 ghost use Rattle.lw_model.specs.declared.script.Script.{Script};
@@ -14,6 +15,7 @@ ghost use Rattle.lw_target.specs.Run.{AreThreads, Leaves, IsOfWholeRun};
 
 use crate::acts::Acts;
 use crate::app::App;
+use crate::buffers::Buffers;
 use crate::client::Client;
 use crate::device::Device;
 use crate::options::Options;
@@ -27,12 +29,19 @@ use lw_model::{
     ThreadRecord,
 };
 use std::alloc::Global;
+use std::sync::Wait;
 
 /// Runs a script of one client on one image, whose ops are gets, puts, writes and reads, and answers the record of its
 /// run. One reactor runs it, under the static scheduler; the period is listed, and no round is made.
 ///
-/// The record is lawful (docs/lawful.md). The call ends: each turn of the threads leaves less to be done.
-pub fn run_script(alloc: Global, script: Script, options: Options) -> Result<Record, NoMemory>
+/// The record is lawful (docs/lawful.md). The owner of the image reads into two buffers, one of each class, which it takes
+/// from a pool of its own before the first turn. The turns end: each leaves less to be done.
+pub fn run_script<R: Wait>(
+    rt: &R,
+    alloc: Global,
+    script: Script,
+    options: Options,
+) -> Result<Record, NoMemory>
     requires accepted { rule_broken script ≡ None }
     requires served { is_served script ≡ true }
     requires options { AreServed options }
@@ -42,11 +51,16 @@ pub fn run_script(alloc: Global, script: Script, options: Options) -> Result<Rec
     ensures reactors { IfOk result (λ r. r.reactors ≡ options.reactors) }
     ensures period { IfOk result (λ r. r.period ≡ options.period) }
 {
-    run_whole(alloc, script, options)
+    run_whole(rt, alloc, script, options)
 }
 
 // The record of a run in which all threads ended.
-fn run_whole(alloc: Global, script: Script, options: Options) -> Result<Record, NoMemory>
+fn run_whole<R: Wait>(
+    rt: &R,
+    alloc: Global,
+    script: Script,
+    options: Options,
+) -> Result<Record, NoMemory>
     requires accepted { rule_broken script ≡ None }
     requires served { is_served script ≡ true }
     requires options { AreServed options }
@@ -62,7 +76,7 @@ fn run_whole(alloc: Global, script: Script, options: Options) -> Result<Record, 
     let large = script.large;
     let images = script.images;
     let (mut rest, of) = take_last(script.clients);
-    let mut target = begin(alloc, &images.as_slice()[0], of)?;
+    let mut target = begin(rt, alloc, &images.as_slice()[0], of)?;
     target.run(alloc)?;
     let ended = end(alloc, target)?;
     rest.push(ended.of)?;
@@ -97,12 +111,12 @@ fn take_last(clients: Items<ClientOf>) -> (Vec<ClientOf>, ClientOf)
 }
 
 // The threads before their first turn.
-fn begin(alloc: Global, size: &ImageOf, of: ClientOf) -> Result<Target, NoMemory>
+fn begin<R: Wait>(rt: &R, alloc: Global, size: &ImageOf, of: ClientOf) -> Result<Target, NoMemory>
     requires limit { size.now.blocks * size.now.block ≤ 16777216 }
     requires block { 0 < size.now.block }
     requires short { length of.ops ≤ 100000 }
     requires serves { list_all (is_servable 1) of.ops ≡ true }
-    requires fits { OpsFit size.now.blocks of.ops }
+    requires fits { OpsFit (stated_extent size.now) of.ops }
     ensures running { IfOk result IsRunning }
     ensures of { IfOk result (λ t. t.client.of ≡ of) }
     ensures device { IfOk result (λ t. vec_len t.app.owed ≡ 1) }
@@ -112,7 +126,7 @@ fn begin(alloc: Global, size: &ImageOf, of: ClientOf) -> Result<Target, NoMemory
     Ok(Target {
         app: App::new(alloc, 1, 1)?,
         client: Client::new(alloc, CLIENT, OWNER, 1, of)?,
-        owner: Owner::new(image),
+        owner: Owner::new(image, Buffers::new(rt, alloc)?),
         devices: vec![in alloc; Device::new(); 1]?,
         posts: Posts::new(alloc)?,
         acts: Acts::new(alloc),

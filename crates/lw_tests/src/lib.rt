@@ -5,15 +5,11 @@
 #[cfg(test)]
 mod any_rings;
 #[cfg(test)]
-mod images;
-#[cfg(test)]
 mod items;
 #[cfg(test)]
 mod memory;
 #[cfg(test)]
 mod places;
-#[cfg(test)]
-mod pools;
 #[cfg(test)]
 mod ring_latches;
 #[cfg(test)]

@@ -6,21 +6,21 @@ use Rattle.lw_target.proofs.Printed.{printed_again}
 use Rattle.lw_target.proofs.run.run_whole.Goals as goal
 
 pub begin-requires-clause-serves : goal.begin-requires-clause-serves
-begin-requires-clause-serves c =
+begin-requires-clause-serves g c =
     serves c.args.script c.index-as_slice-0.result c.take_last-rest.result.1 c.requires.accepted c.requires.served
     (single c.args.script.images c.index-as_slice-0.result (images_one c.args.script c.requires.served)
     (c.index-as_slice-0.is ∙ ap (λ l. get_or l 0 c.index-as_slice-0.result) c.as_slice.ensures))
     (single_last c.args.script.clients _ c.take_last-rest.result.1 c.take_last-rest.ensures (clients_one c.args.script c.requires.served))
 
 pub begin-requires-clause-fits : goal.begin-requires-clause-fits
-begin-requires-clause-fits c =
+begin-requires-clause-fits g c =
     ops_fit c.args.script c.index-as_slice-0.result c.take_last-rest.result.1 c.requires.accepted c.requires.served
     (single c.args.script.images c.index-as_slice-0.result (images_one c.args.script c.requires.served)
     (c.index-as_slice-0.is ∙ ap (λ l. get_or l 0 c.index-as_slice-0.result) c.as_slice.ensures))
     (single_last c.args.script.clients _ c.take_last-rest.result.1 c.take_last-rest.ensures (clients_one c.args.script c.requires.served))
 
 pub invariant_of-result : goal.invariant_of-result
-invariant_of-result c =
+invariant_of-result g c =
     let of : c.in_ok-ended.ended.of ≡ c.take_last-rest.result.1 = c.in_ok-ended.ensures.of ∙ c.in_ok-run.ensures.turned.of ∙ c.in_ok-target.ensures.of in
     let same : c.args.script.clients ≡ c.from_vec.result =
     c.take_last-rest.ensures ∙ ap (λ o. c.take_last-rest.result.0.items ++ o ∷ []) (sym of) ∙ sym c.in_ok-push.ensures.items ∙ sym c.from_vec.ensures in
@@ -31,13 +31,13 @@ invariant_of-result c =
     }
 
 pub end-requires-clause-owed : goal.end-requires-clause-owed
-end-requires-clause-owed c = c.in_ok-run.ensures.turned.devices ∙ c.in_ok-target.ensures.device
+end-requires-clause-owed g c = c.in_ok-run.ensures.turned.devices ∙ c.in_ok-target.ensures.device
 
 pub end-requires-clause-devices : goal.end-requires-clause-devices
-end-requires-clause-devices c = c.in_ok-run.ensures.turned.running.app_devices ∙ c.in_ok-run.ensures.turned.devices ∙ c.in_ok-target.ensures.device
+end-requires-clause-devices g c = c.in_ok-run.ensures.turned.running.app_devices ∙ c.in_ok-run.ensures.turned.devices ∙ c.in_ok-target.ensures.device
 
 pub returns-clause-whole : goal.returns-clause-whole
-returns-clause-whole c =
+returns-clause-whole g c =
     let s = c.args.script in
     let of = c.take_last-rest.result.1 in
     let of_is : c.in_ok-ended.ended.of ≡ of = c.in_ok-ended.ensures.of ∙ c.in_ok-run.ensures.turned.of ∙ c.in_ok-target.ensures.of in

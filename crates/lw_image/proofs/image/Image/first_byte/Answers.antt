@@ -7,4 +7,4 @@ returns-clause-within c =
     let blocks : c.self.inside.blocks ≡ c.args.self.now.blocks = ap (λ i. i.blocks) c.self.view_is in
     let bytes : c.self.inside.bytes.items ≡ c.args.self.now.bytes = ap (λ i. i.bytes) c.self.view_is in
     range_within_all c.args.start c.args.count c.self.inside.blocks c.args.self.now.block c.self.inside.block (length c.args.self.now.bytes)
-    (omega (arith, c.requires.1, blocks)) (sym (ap (λ i. i.block) c.self.view_is)) (omega (arith, ap length bytes, c.self.invariant.0))
+    (omega (arith, c.requires, blocks)) (sym (ap (λ i. i.block) c.self.view_is)) (omega (arith, ap length bytes, c.self.invariant.0))

@@ -18,11 +18,11 @@ loop-out-preserved c =
       owner = going_on 2 c.args.sender _ _ _ _ _ _ out i.owner d.owner first;
       senders = d.senders i.senders;
       work = omega (arith, d.work, i.work, asked_first _ _ out first, asked_first (out ∷ []) [] out refl);
-      fits = λ blocks all go.
-          let fit = λ (s : Outgoing). FitsImage blocks s.what s.load in
-          let both = i.fits blocks all go in
+      fits = λ extent all go.
+          let fit = λ (s : Outgoing). FitsImage extent s.what s.load in
+          let both = i.fits extent all go in
           let mine = All-same fit (out ∷ c.next.new.self.sends) c.loop-out.acts.sends (sym first) both.1 in (
-            d.fits blocks both.0 (All-cons fit out [] (All-head fit out c.next.new.self.sends mine) (All-nil fit)),
+            d.fits extent both.0 (All-cons fit out [] (All-head fit out c.next.new.self.sends mine) (All-nil fit)),
             All-rest fit out c.next.new.self.sends c.loop-out.acts.sends first both.1,
           );
     }

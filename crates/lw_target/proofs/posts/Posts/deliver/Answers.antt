@@ -15,6 +15,6 @@ returns-in_default c =
       owner = got_push _ _ _ _ waiting ran (posted_one 2 c.args.sender c.args.out 2 post);
       senders = λ s. (s.0, s.1, senders ∙ s.2);
       work = omega (arith, ap waiting_work waiting, waiting_push, asked_first (c.args.out ∷ []) [] c.args.out refl);
-      fits = λ blocks all one. owner_fits _ _ _ c.args.out blocks waiting refl refl all one;
+      fits = λ extent all one. owner_fits _ _ _ c.args.out extent waiting refl refl all one;
     })
     c.push-in_default.ensures.waiting c.push-in_default.ensures.ran c.push-in_default.ensures.senders

@@ -3,7 +3,7 @@ use Rattle.std.specs.List.{between, range_with_len}
 use Rattle.std.specs.Prelude.{map}
 use Rattle.lw_model.specs.Replay.{byte_after}
 use Rattle.lw_image.proofs.Written.{between_told}
-use Rattle.lw_image.proofs.image.Image.read_into.Goals as goal
+use Rattle.lw_image.proofs.image.Image.copy_to.Goals as goal
 
 pub returns : goal.returns
 returns c = λ past after.

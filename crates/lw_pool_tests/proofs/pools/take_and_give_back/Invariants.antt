@@ -1,5 +1,5 @@
 use Rattle.std.proofs.Common.{◌≡◌, ◌+◌, ◌≤◌}
-use Rattle.lw_tests.proofs.pools.take_and_give_back.Given as goal
+use Rattle.lw_pool_tests.proofs.pools.take_and_give_back.Given as goal
 
 abbrev pub invariant-loop : goal.invariant-loop
 invariant-loop g l =

@@ -4,7 +4,7 @@ ghost use Rattle.std.specs.Bool.{OnTrue};
 ghost use Rattle.lw_pool.specs.Sizes.{size_of};
 ghost use Rattle.lw_pool.specs.PoolEnds.{PoolEnd, IsEven, filled_bytes, new_pass, with_taken, queue_of};
 ghost use Rattle.lw_pool.specs.declared.class.Class.TheVariants as class;
-ghost use Rattle.lw_tests.specs.Pools.{AreFour, IsBack, IsNew};
+ghost use Rattle.lw_pool_tests.specs.Pools.{AreFour, IsBack, IsNew};
 
 use lw_base::NoMemory;
 use lw_pool::{Buffer, Class, Empty, Home, PoolPass, pool, settle_pool};
@@ -45,6 +45,13 @@ fn fill(buffer: &mut Buffer, bytes: &[u8])
     ensures same { (buffer.new.queue ≡ buffer.old.queue) × (buffer.new.class ≡ buffer.old.class) }
 {
     buffer.room(bytes.len()).copy_from_slice(bytes);
+}
+
+#[test]
+fn the_largest_count_of_small_buffers_and_passes_is_made(rt: HostRuntime) -> Result<(), Fail> {
+    let mut passes = pool(&rt, rt.alloc(), 1_024, 2, 127)?;
+    assert!(rt; passes.len() == 127 && passes.pop().unwrap().number() == 126);
+    Ok(())
 }
 
 #[test]
