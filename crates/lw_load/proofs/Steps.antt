@@ -25,7 +25,7 @@ each_set Q views i w mine others j u e = ⊎_elim (λ (x : (j ≡ i) × (w ≡ u
 pub publishes : (id : ℕ) (v : LoadView) (busy idle : ℕ) → v.writers ≡ 1 → v.busy ≤ busy → v.idle ≤ idle
     → Turns Kept id v (λ _. busy ∷ idle ∷ []) Publishes
 publishes id v busy idle one busier idler x views h at =
-    let w : LoadView = record v { busy = busy; idle = idle } in
+    let w : LoadView = record v { busy = busy; idle = idle; stores = v.stores + 1 } in
     let was : x ≡ v.busy ∷ v.idle ∷ [] = (h.each id v at).published (omega arith) in
     let busy_was : slice_index x 0 ≡ v.busy = ap (λ (l : List ℕ). slice_index l 0) was in
     let idle_was : slice_index x 1 ≡ v.idle = ap (λ (l : List ℕ). slice_index l 1) was in

@@ -10,11 +10,11 @@ writers v = v.writers
 
 -- the view that publishes, before it has published
 abbrev pub first_view : LoadView
-first_view = record { writers = 1; busy = 0; idle = 0; loads = 0 }
+first_view = record { writers = 1; busy = 0; idle = 0; stores = 0; loads = 0 }
 
 -- a view that reads, before it has read
 abbrev pub unread : LoadView
-unread = record { writers = 0; busy = 0; idle = 0; loads = 0 }
+unread = record { writers = 0; busy = 0; idle = 0; stores = 0; loads = 0 }
 
 -- what the rule says of one view: the cell holds the pair that its publisher published last, and no less than a reader found
 -- last
@@ -30,9 +30,9 @@ pub record Kept (pair : List ℕ) (views : List LoadView) : Type 0 where
 
 -- What each kind of step tells, of the view before it, the pair before, the pair after and the view after.
 
--- a pair is published
+-- a pair is published, and one store more is counted
 abbrev pub Publishes : LoadView → List ℕ → List ℕ → LoadView → Type 0
-Publishes v before after w = w ≡ record v { busy = slice_index after 0; idle = slice_index after 1 }
+Publishes v before after w = w ≡ record v { busy = slice_index after 0; idle = slice_index after 1; stores = v.stores + 1 }
 
 -- the pair is found, which is no less than was found before, and one load more is counted
 abbrev pub Reads : LoadView → List ℕ → List ℕ → LoadView → Type 0

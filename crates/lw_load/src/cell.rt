@@ -8,9 +8,12 @@ use crossbeam_utils::rule::{Outcome, Protocol};
 pub struct LoadView {
     /// 1 for the view that publishes, 0 for one that reads. All views together have 1.
     pub writers: u64,
-    /// The pair that it published last, or found last. Zeros before the first.
+    /// The busy ticks that it published last, or found last. 0 before the first.
     pub busy: u64,
+    /// The idle ticks of the same pair.
     pub idle: u64,
+    /// How often it stored a pair in the cell.
+    pub stores: u64,
     /// How often it loaded the cell.
     pub loads: u64,
 }
@@ -58,4 +61,5 @@ impl Split<LoadView> for Making {
 /// The busy ticks, and then the idle ones.
 pub type LoadCell = RuledSeqCell<[u64; 2], LoadView, LoadRule, 2>;
 
+/// A view of a cell, with the right to make its steps.
 pub type Pass = seq_cell::Pass<[u64; 2], LoadView>;

@@ -1,6 +1,7 @@
 //! A thread's pass.
-ghost use Rattle.std.specs.Prelude.{◌≡◌, ◌≤◌};
+ghost use Rattle.std.specs.Prelude.{◌≡◌, ◌+◌, ◌≤◌};
 ghost use Rattle.crossbeam_utils.specs.Seq.{IsSamePass, cell_view};
+ghost use Rattle.lw_load.specs.LoadEnds.{published};
 
 use crate::cell::{LoadCell, Pass, Publishing};
 use crate::figures::Figures;
@@ -31,6 +32,7 @@ impl Model for LoadPass {
       thread = p.thread;
       busy = p.last.busy;
       idle = p.last.idle;
+      stores = (cell_view p.pass).stores;
     } };
 
     ghost invariant = { λ p.
@@ -57,11 +59,11 @@ impl LoadPass {
 
     /// Publishes how long the thread was busy and idle in all. Neither is less than this pass published last.
     ///
-    /// A pair that is the last one again isn't stored anew.
+    /// It is one store of both, and none where the pair is the last one again.
     pub fn publish<R: Wait>(&mut self, rt: &R, busy: Tick, idle: Tick)
         requires busy { self.old.busy ≤ busy }
         requires idle { self.old.idle ≤ idle }
-        ensures { self.new ≡ record self.old { busy = busy; idle = idle } }
+        ensures { self.new ≡ published busy idle self.old }
     {
         if busy != self.last.busy || idle != self.last.idle {
             store(rt, &self.cell, &mut self.pass, busy, idle);
@@ -77,7 +79,11 @@ fn store<R: Wait>(rt: &R, cell: &LoadCell, pass: &mut Pass, busy: Tick, idle: Ti
     requires busy { (cell_view pass.old).busy ≤ busy }
     requires idle { (cell_view pass.old).idle ≤ idle }
     ensures cell { IsSamePass pass.old pass.new }
-    ensures last { cell_view pass.new ≡ record (cell_view pass.old) { busy = busy; idle = idle } }
+    ensures last { cell_view pass.new ≡ record (cell_view pass.old) {
+      busy = busy;
+      idle = idle;
+      stores = (cell_view pass.old).stores + 1;
+    } }
 {
     cell.swap_as::<Publishing, R>(rt, pass, [busy, idle]);
 }

@@ -69,7 +69,8 @@ impl Model for LoadReader {
 }
 
 impl LoadReader {
-    /// A thread's figures: what this call's one load of the thread's cell found.
+    /// A thread's figures: what this call's one load of the thread's cell found. The thread is one of those that the cells
+    /// were made for.
     ///
     /// That is a pair that was published, or zeros, and neither figure is ever less than this reader found before.
     pub fn read<R: Wait>(&mut self, rt: &R, thread: u32) -> Figures

@@ -58,7 +58,7 @@ impl DeskSeat {
             .load::<LookingAtDone>(&mut self.seat, DONE)
     }
 
-    /// Where a thread stands. It is one load.
+    /// Where a thread of these places stands. It is one load.
     pub fn look(&mut self, thread: u32) -> Place
         requires { thread < self.old.places.threads }
         ensures seen { self.new ≡ record self.old {

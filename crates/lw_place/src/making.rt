@@ -1,5 +1,5 @@
 //! How the places of a run are made.
-ghost use Rattle.std.specs.Prelude.{◌≡◌, ℕ, ◌+◌, ◌<◌, ◌≤◌, [], ◌∷◌, length, map, All, IfOk};
+ghost use Rattle.std.specs.Prelude.{◌≡◌, ℕ, ◌+◌, ◌<◌, ◌≤◌, [], ◌∷◌, length, map, replicate, All, IfOk};
 ghost use Rattle.lw_place.specs.PlaceWord.{most_threads, most_reactors, start_place, IsBelow};
 ghost use Rattle.lw_place.specs.PlaceTable.{first_view, less_first_thread, less_one_desk, words_of};
 ghost use Rattle.lw_place.specs.PlaceSeats.{AreNew, new_desk, places_of};
@@ -54,11 +54,21 @@ fn places_from(alloc: Global, homes: Homes) -> Result<(Vec<ThreadSeat>, Vec<Desk
     for thread in 0..homes.of.len() as u32 {
         threads.push(all.deal_thread(thread, homes.of[thread as usize])?)?;
     }
+    let desks = deal_desks(alloc, all, homes.reactors)?;
+    Ok((threads, desks))
+}
+
+// The desks of so many reactors, dealt out of a seat that stands for as many and for no thread more.
+fn deal_desks(alloc: Global, mut all: Bundle, reactors: u32) -> Result<Vec<DeskSeat>, NoMemory>
+    requires desks { all.view.desks ≡ reactors }
+    requires new { (all.view.retired ≡ 0) × (all.view.halted ≡ 0) }
+    ensures { IfOk result (λ ds. ds.items ≡ replicate reactors (new_desk (places_of all.table all.view))) }
+{
     let mut desks = Vec::new(alloc);
-    for _ in 0..homes.reactors {
+    for _ in 0..reactors {
         desks.push(all.deal_desk()?)?;
     }
-    Ok((threads, desks))
+    Ok(desks)
 }
 
 // The table of these homes, with the seat that stands for all.

@@ -15,7 +15,9 @@ pub(crate) const FIRST_THREAD: usize = 2;
 
 /// A light thread, by its number from 0, and where it stands. Contracts alone see it.
 pub struct Stand {
+    /// The thread's number.
     pub thread: u32,
+    /// Where it stands.
     pub place: Place,
 }
 
@@ -30,8 +32,9 @@ pub struct Homes {
 
 /// What a seat knows. Contracts alone see it: no caller makes one.
 pub struct PlaceView {
-    /// How many threads and reactors there are. Both are 0 for a seat that was joined to another.
+    /// How many threads there are, 0 for a seat that was joined to another.
     pub threads: u64,
+    /// How many reactors there are, 0 for a seat that was joined to another.
     pub reactors: u64,
     /// The threads that it stands for, and where they stand.
     pub stands: LinkedList<Stand>,
@@ -43,8 +46,9 @@ pub struct PlaceView {
     pub halted: u64,
     /// How often they looked at a word.
     pub looks: u64,
-    /// How many retired threads the last look at that count found, and 1 where the last look found the run halted.
+    /// How many retired threads the last look at their count found.
     pub done_seen: u64,
+    /// 1 where the last look at the halt word found the run halted, and else 0.
     pub halt_seen: u64,
     /// At which thread they last looked, and what they found.
     pub found: Option<Stand>,
@@ -82,6 +86,7 @@ impl Play<(), PlaceView> for Starting {
     ghost then = { Begins };
 }
 
+/// One thread more is counted as retired.
 pub struct Retiring;
 
 impl Play<(), PlaceView> for Retiring {
@@ -90,6 +95,7 @@ impl Play<(), PlaceView> for Retiring {
     ghost then = { Retires };
 }
 
+/// The run is halted.
 pub struct Halting;
 
 impl Play<(), PlaceView> for Halting {
@@ -125,7 +131,7 @@ impl Play<(), PlaceView> for Looking {
     ghost then = { Looks };
 }
 
-/// The three loads by a seat that stands for all threads or all desks, at the end of the run.
+/// A load of the count of retired threads by the seat that stands for all desks, at the end of the run.
 pub struct LearningDone;
 
 impl Play<(), PlaceView> for LearningDone {
@@ -134,6 +140,7 @@ impl Play<(), PlaceView> for LearningDone {
     ghost then = { LearnsDone };
 }
 
+/// A load of the halt word by the same seat.
 pub struct LearningHalt;
 
 impl Play<(), PlaceView> for LearningHalt {
@@ -142,6 +149,7 @@ impl Play<(), PlaceView> for LearningHalt {
     ghost then = { LearnsHalt };
 }
 
+/// A load of a thread's word by a seat that stands for all threads.
 pub struct Learning;
 
 impl Play<(), PlaceView> for Learning {

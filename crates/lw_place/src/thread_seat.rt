@@ -36,7 +36,8 @@ impl Model for ThreadSeat {
 }
 
 impl ThreadSeat {
-    /// The thread leaves for a reactor: it is in an event to it from now on. It has neither ended, nor is it held.
+    /// The thread leaves for a reactor, one of those of its places: it is in an event to it from now on. It has neither ended,
+    /// nor is it held.
     pub fn leave_for(&mut self, to: u32)
         requires place { MayLeave self.old.place }
         requires range { to < self.old.places.reactors }
@@ -79,14 +80,16 @@ impl ThreadSeat {
 
     /// Where the thread stands, which is what its word says.
     pub fn place(&self) -> Place
-        ensures { result ≡ self.now.place }
+        ensures place { result ≡ self.now.place }
+        ensures below { IsBelow self.now.places.reactors result }
     {
         self.place
     }
 
-    /// The thread's number.
+    /// The thread's number, one of those of its places.
     pub fn thread(&self) -> u32
-        ensures { result ≡ self.now.thread }
+        ensures thread { result ≡ self.now.thread }
+        ensures below { result < self.now.places.threads }
     {
         self.thread
     }

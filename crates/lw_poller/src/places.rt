@@ -12,8 +12,11 @@ use lw_base::Tick;
 /// In which list of a set a poller stands, and at which place.
 #[derive(Clone, Copy)]
 pub enum Spot {
+    /// Among the active ones.
     Active(usize),
+    /// Among the timed ones that aren't paused.
     Timed(usize),
+    /// Among the timed ones that are paused.
     Resting(usize),
 }
 

@@ -1,5 +1,6 @@
 //! A poll goes through the pollers.
 ghost use Rattle.std.specs.Prelude.{◌≡◌, ℕ, IfSome, IfNone};
+ghost use Rattle.lw_poller.specs.Pollers.{AreKept};
 ghost use Rattle.lw_poller.specs.LocalDue.{begun, IsNextActive, NoneActive, IsNextTimed, NoneDue};
 ghost use Rattle.lw_poller.specs.Changes.{GivesActive, GivesTimed};
 
@@ -13,7 +14,8 @@ use lw_base::Tick;
 impl PollerSet {
     /// Begins a poll. It may call each poller that is live now.
     pub fn begin(&mut self, now: Tick)
-        ensures { self.new ≡ begun now self.old }
+        ensures begun { self.new ≡ begun now self.old }
+        ensures kept { AreKept self.new }
     {
         self.turn = 0;
         self.before = self.active.len();

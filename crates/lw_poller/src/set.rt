@@ -18,11 +18,13 @@ pub struct PollerSet {
     pub(crate) live: Numbers,
     /// In order of registration.
     pub(crate) active: Vec<Active>,
-    /// How many of the active ones had their turn in this poll, and how many were added before it.
+    /// How many of the active ones had their turn in this poll.
     pub(crate) turn: usize,
+    /// How many of them were added before it.
     pub(crate) before: usize,
     /// By due time, and among equal due times in the order in which these were set.
     pub(crate) timed: Vec<Timed>,
+    /// The timed ones that are paused.
     pub(crate) resting: Vec<Resting>,
     /// The timed ones that were added in this poll, or given in it.
     pub(crate) over: Numbers,
@@ -77,7 +79,7 @@ impl PollerSet {
         })
     }
 
-    /// Whether no poller is live. What is true of each set of pollers can be learned by this call.
+    /// Whether no poller is live. What is true of each set of pollers can be learned by this call, and by `begin`.
     pub fn is_empty(&self) -> bool
         ensures empty { IsTrue result ↔ (live_count self.now ≡ 0) }
         ensures kept { AreKept self.now }

@@ -168,5 +168,29 @@ fn due_times_stop_at_the_greatest_tick(rt: HostRuntime) -> Result<(), Fail> {
     assert!(rt; polls(&mut set, u64::MAX - 2, &[]));
     assert!(rt; polls(&mut set, u64::MAX - 1, &[1]));
     assert!(rt; polls(&mut set, u64::MAX, &[0, 1]) && polls(&mut set, u64::MAX, &[0, 1]));
+    let mut late = PollerSet::new(rt.alloc())?;
+    assert!(rt; late.add_timed(u64::MAX, 7) == Ok(PollerId(0)));
+    assert!(rt; polls(&mut late, u64::MAX, &[0]));
+    Ok(())
+}
+
+// The second one that is resumed is due only after the poll began.
+#[test]
+fn a_paused_poller_that_is_resumed_before_its_turn_is_called(rt: HostRuntime) -> Result<(), Fail> {
+    let mut set = active(rt.alloc(), 3)?;
+    set.begin(0);
+    assert!(rt; set.next_active() == Some(PollerId(0)));
+    assert!(rt; set.pause(PollerId(1)) == Ok(()) && set.resume(PollerId(1), 0) == Ok(()));
+    assert!(rt; gives_active(&mut set, &[1, 2]));
+    let mut timed = PollerSet::new(rt.alloc())?;
+    assert!(rt;
+        adds_timed(&mut timed, 1, 0) && adds_timed(&mut timed, 2, 1) && adds_timed(&mut timed, 3, 2)
+    );
+    timed.begin(100);
+    assert!(rt; timed.next_timed() == Some(PollerId(0)));
+    assert!(rt; timed.pause(PollerId(1)) == Ok(()) && timed.resume(PollerId(1), 98) == Ok(()));
+    assert!(rt; timed.pause(PollerId(2)) == Ok(()) && timed.resume(PollerId(2), 98) == Ok(()));
+    assert!(rt; gives_timed(&mut timed, &[1]));
+    assert!(rt; polls(&mut timed, 101, &[0, 2]));
     Ok(())
 }

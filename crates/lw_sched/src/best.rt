@@ -27,13 +27,14 @@ pub struct Best {
 }
 
 impl Best {
-    // The best of all reactors that the mover may go to, in the order 1, .., R-1, 0, with what is planned for each. The
-    // last are looked at first, so that each that is as good as one behind it takes its place.
+    /// The best of all reactors that the mover may go to, in the order 1, .., R-1, 0, with what is planned for each of the 1 to
+    /// 16 reactors.
     pub fn of(mover: Mover, planned: &[u32]) -> Best
         requires { (1 ≤ length planned.now) × (length planned.now ≤ 16) }
         ensures best { result ≡ best_of mover (slice_index planned.now) (targets mover.mask (length planned.now)) }
         ensures below { IsBelow (length planned.now) result }
     {
+        // The last are looked at first, so that each that is as good as one behind it takes its place.
         let mut reactor = planned.len() as u32;
         let mut best = Best {
             room: None,

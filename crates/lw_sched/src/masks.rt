@@ -2,7 +2,7 @@
 ghost use Rattle.std.specs.Prelude.{◌≡◌, ◌<◌, ◌≤◌, slice_index};
 ghost use Rattle.lw_base.specs.Masks.{allows, allowed};
 
-// Whether a mask allows a reactor: its bit is set, or no bit of the reactors is.
+/// Whether a mask allows one of 1 to 16 reactors: its bit is set, or no bit of the reactors is.
 pub fn allows(mask: u32, reactors: u32, reactor: u32) -> bool
     requires reactors { reactors ≤ 16 }
     requires reactor { reactor < reactors }
@@ -11,7 +11,7 @@ pub fn allows(mask: u32, reactors: u32, reactor: u32) -> bool
     (mask >> reactor) % 2 == 1 || mask % (1 << reactors) == 0
 }
 
-// The least reactor that a mask allows.
+/// The least of 1 to 16 reactors that a mask allows.
 pub fn lowest(mask: u32, reactors: u32) -> u32
     requires { (1 ≤ reactors) × (reactors ≤ 16) }
     ensures lowest { result ≡ slice_index (allowed mask reactors) 0 }

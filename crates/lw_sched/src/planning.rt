@@ -18,7 +18,8 @@ use std::alloc::Global;
 /// are at most `limits.core`; or, where there is none, to the first of them for which the least is planned. What is planned
 /// for a reactor is the sum of the loads of the rows before that go to it or stay on it.
 ///
-/// It takes time in the number of rows times that of the reactors.
+/// There are 1 to 16 reactors and 127 rows at most, each row's reactor is below `reactors`, and there is a mask for each row. It
+/// fails for want of memory alone, and takes time in the number of rows times that of the reactors.
 pub fn plan(
     alloc: Global,
     limits: Limits,

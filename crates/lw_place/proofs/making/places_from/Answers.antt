@@ -4,7 +4,7 @@ use Rattle.lw_place.specs.declared.place.Place.{Place}
 use Rattle.lw_place.specs.declared.table.PlaceView.{PlaceView}
 use Rattle.lw_place.specs.PlaceWord.{IsBelow}
 use Rattle.lw_place.specs.PlaceTable.{stands_from, new_view, less_first_thread}
-use Rattle.lw_place.specs.PlaceSeats.{Places, BundleEnd, new_desk}
+use Rattle.lw_place.specs.PlaceSeats.{Places, BundleEnd, new_desk, places_of}
 use Rattle.lw_place.proofs.Beginning.{seat_at, one_more_thread}
 use Rattle.lw_place.proofs.making.places_from.Goals as goal
 
@@ -58,13 +58,17 @@ loop-thread-preserved c =
 pub returns : goal.returns
 returns c =
     let i = c.loop-thread.invariant in
-    let l = c.loop.invariant in
     let end = c.loop-thread-test.false in
     let most = c.loop-thread.auto in
     let b = c.len-thread-end.ensures in
-    let stop = c.loop-test.false in
-    let most' = c.loop.auto in
     let p : Places = record { table = c.in_ok-all.all.table; threads = length c.args.homes.of.items; reactors = c.args.homes.reactors } in
-    let all : c.loop.counter ≡ c.args.homes.reactors = (let z = most'.counter-end in omega arith) in
     let n : c.loop-thread.thread ≡ length c.args.homes.of.items = (let z = most.thread-end in omega arith) in
-    record { places = p; for_threads = refl; for_reactors = refl; thread_count = i.count ∙ n; each_thread = λ t d q l. i.dealt t d q (omega arith); desks = l.dealt ∙ ap (λ z. replicate c.loop.counter (new_desk (record { table = z; threads = length c.args.homes.of.items; reactors = c.args.homes.reactors }))) i.table ∙ ap (λ k. replicate k (new_desk p)) all }
+    let same : places_of c.loop-thread.all.table c.loop-thread.all.view ≡ p = λ k. record { table = i.table k; threads = (i.rest k).threads; reactors = (i.rest k).reactors } in
+    record {
+      places = p;
+      for_threads = refl;
+      for_reactors = refl;
+      thread_count = i.count ∙ n;
+      each_thread = λ t d q l. i.dealt t d q (omega arith);
+      desks = c.in_ok-desks.ensures ∙ ap (λ z. replicate c.args.homes.reactors (new_desk z)) same;
+    }

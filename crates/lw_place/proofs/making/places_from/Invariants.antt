@@ -1,8 +1,8 @@
-use Rattle.std.proofs.Common.{◌≡◌, ◌<◌, ◌-◌, ℕ, [], drop, length, replicate}
+use Rattle.std.proofs.Common.{◌≡◌, ◌<◌, ℕ, drop, length}
 use Rattle.std.specs.Prelude.{slice_index_or}
 use Rattle.lw_place.specs.declared.place.Place.{Place}
 use Rattle.lw_place.specs.PlaceTable.{new_view, stands_from}
-use Rattle.lw_place.specs.PlaceSeats.{ThreadEnd, new_desk}
+use Rattle.lw_place.specs.PlaceSeats.{ThreadEnd}
 use Rattle.lw_place.proofs.making.places_from.Given as goal
 
 abbrev pub invariant-loop-thread : goal.invariant-loop-thread
@@ -15,11 +15,4 @@ invariant-loop-thread l = record {
     thread = k;
     place = slice_index_or l.homes.of.items k p;
   };
-}
-
-abbrev pub invariant-loop : goal.invariant-loop
-invariant-loop l = record {
-  rest : l.all.view ≡ new_view (length l.homes.of.items) l.homes.reactors [] (l.homes.reactors - l.counter);
-  table : l.all.table ≡ l.initial.all.table;
-  dealt : l.desks.items ≡ replicate l.counter (new_desk (record { table = l.initial.all.table; threads = length l.homes.of.items; reactors = l.homes.reactors }));
 }

@@ -1,0 +1,16 @@
+pub mod Asking
+pub mod Chains
+pub mod Tying
+pub mod Calling
+pub mod Backs
+pub mod Making
+pub mod Kept
+pub mod Sent
+pub mod Going
+pub mod Whole
+pub mod Results
+pub mod Counting
+pub mod Live
+pub mod Adding
+pub mod Rests
+pub mod Crosses

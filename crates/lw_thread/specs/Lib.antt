@@ -1,0 +1,12 @@
+pub mod Acts
+pub mod Sending
+pub mod Calls
+pub mod Threads
+pub mod Polls
+pub mod Runs
+pub mod Links
+pub mod Refused
+pub mod Posting
+pub mod Rest
+pub mod Opening
+pub mod Endings
