@@ -1,15 +1,9 @@
 -- The first of several rules that fails.
-use Rattle.std.proofs.Common.{◌≡◌, ◌↔◌, ℕ, ◌+◌, ◌<◌, ◌^◌, arith, drop, List, [], ◌∷◌, true, Option, Some, None, is_none, length, refl, sym, ap, ◌∙◌}
-use Rattle.std.proofs.lemmas.Bool.{and_parts, false≢true}
+use Rattle.std.proofs.Common.{◌≡◌, ◌↔◌, ℕ, ◌+◌, ◌<◌, ◌^◌, arith, drop, List, [], ◌∷◌, Option, Some, None, length, refl, sym, ap, ◌∙◌}
 use Rattle.lw_model.specs.declared.record.Record.{Record}
-use Rattle.lw_base.specs.declared.moves.Round.{Round}
-use Rattle.lw_base.specs.declared.moves.Scheduler.{Scheduler}
-use Rattle.lw_base.specs.declared.moves.Scheduler.TheVariants.{Static}
-use Rattle.lw_model.specs.declared.record.Span.{Span}
-use Rattle.lw_model.specs.Printable.{has_rounds, is_empty}
 use Rattle.lw_model.specs.Lawful.{Lawful}
-use Rattle.lw_model.specs.Lines.{clock_line, device_line, home_line, round_line}
-use Rattle.lw_model.specs.Verdict.{Test, first_failing, least_failing, rules, homes_and_hops, numbers, devices, visits_seen, rounds_and_orders, buffers_home, clock_tests, verdict}
+use Rattle.lw_model.specs.Lines.{clock_line, device_line}
+use Rattle.lw_model.specs.Verdict.{Test, first_failing, least_failing, rules, homes_and_hops, numbers, devices, visits_seen, rounds_and_orders, buffers_home, verdict}
 use Rattle.lw_model.proofs.Judged.{verdict-exact}
 use Rattle.lw_model.proofs.Printed.{parts}
 use Rattle.lw_judge.specs.declared.answer.Verdict.{Verdict}
@@ -27,29 +21,6 @@ fails n rule rest r o line is found = ap (λ q. chosen n q (first_failing (n + 1
 -- the first rule holds
 pub holds : (n : ℕ) (rule : Record → List Test) (rest : List (Record → List Test)) (r : Record) (o : Option ℕ) → o ≡ least_failing (rule r) → o ≡ None → first_failing n (rule ∷ rest) r ≡ first_failing (n + 1) rest r
 holds n rule rest r o is none = ap (λ q. chosen n q (first_failing (n + 1) rest r)) (sym is ∙ none)
-
--- ---- Static runs
-
-static_rounds : (s : Scheduler) (span : Option Span) (rounds : List Round) → s ≡ Static → has_rounds s span rounds ≡ true → (span ≡ None) × (rounds ≡ [])
-static_rounds s span rounds is e = at span rounds (and_parts (is_none span) (is_empty rounds) (ap (λ q. has_rounds q span rounds) (sym is) ∙ e))
-  where
-    at : (span : Option Span) (rounds : List Round) → (is_none span ≡ true) × (is_empty rounds ≡ true) → (span ≡ None) × (rounds ≡ [])
-    at None [] h = (refl, refl)
-    at (Some s) rounds h = absurd (false≢true h.0)
-    at None (x ∷ xs) h = absurd (false≢true h.1)
-
-pub no_span : (r : Record) → r.scheduler ≡ Static → r.span ≡ None
-no_span r static = (static_rounds r.scheduler r.span r.rounds static (parts r).rounds).0
-
-pub no_rounds : (r : Record) → r.scheduler ≡ Static → r.rounds ≡ []
-no_rounds r static = (static_rounds r.scheduler r.span r.rounds static (parts r).rounds).1
-
-pub home_line-static : (r : Record) → r.scheduler ≡ Static → home_line r ≡ clock_line r
-home_line-static r static = ap (λ (o : Option Span). elim o [ None ↦ clock_line r | Some span ↦ round_line r (length r.rounds) ]) (no_span r static)
-
--- a static run has no rule on rounds
-pub nothing_on_rounds : (r : Record) → r.scheduler ≡ Static → None ≡ least_failing (rounds_and_orders r)
-nothing_on_rounds r static = ap (λ (o : Option Span). least_failing (elim o [ None ↦ [] | Some span ↦ clock_tests r span ])) (sym (no_span r static))
 
 -- ---- A lawful record
 
@@ -90,12 +61,16 @@ to_the_third r o p first none second nothing =
 pub sixth_fails : (r : Record) (o : Option ℕ) (line : ℕ) → o ≡ least_failing (devices r) → o ≡ Some line → first_failing 6 (drop 5 rules) r ≡ Some (6, line)
 sixth_fails r o line is found = fails 6 devices (drop 6 rules) r o line is found
 
--- the sixth holds, and the seventh, and a static run's eighth
-pub to_the_ninth : (r : Record) (o p : Option ℕ) → r.scheduler ≡ Static → o ≡ least_failing (devices r) → o ≡ None → p ≡ least_failing (visits_seen r) → p ≡ None → first_failing 6 (drop 5 rules) r ≡ first_failing 9 (drop 8 rules) r
-to_the_ninth r o p static sixth none seventh nothing =
-    holds 6 devices (drop 6 rules) r o sixth none
-    ∙ holds 7 visits_seen (drop 7 rules) r p seventh nothing
-    ∙ holds 8 rounds_and_orders (drop 8 rules) r None (nothing_on_rounds r static) refl
+-- the sixth holds, and the seventh
+pub to_the_eighth : (r : Record) (o p : Option ℕ) → o ≡ least_failing (devices r) → o ≡ None → p ≡ least_failing (visits_seen r) → p ≡ None → first_failing 6 (drop 5 rules) r ≡ first_failing 8 (drop 7 rules) r
+to_the_eighth r o p sixth none seventh nothing =
+    holds 6 devices (drop 6 rules) r o sixth none ∙ holds 7 visits_seen (drop 7 rules) r p seventh nothing
+
+pub eighth_fails : (r : Record) (o : Option ℕ) (line : ℕ) → o ≡ least_failing (rounds_and_orders r) → o ≡ Some line → first_failing 8 (drop 7 rules) r ≡ Some (8, line)
+eighth_fails r o line is found = fails 8 rounds_and_orders (drop 8 rules) r o line is found
+
+pub eighth_holds : (r : Record) (o : Option ℕ) → o ≡ least_failing (rounds_and_orders r) → o ≡ None → first_failing 8 (drop 7 rules) r ≡ first_failing 9 (drop 8 rules) r
+eighth_holds r o is none = holds 8 rounds_and_orders (drop 8 rules) r o is none
 
 pub ninth_fails : (r : Record) (o : Option ℕ) (line : ℕ) → o ≡ least_failing (buffers_home r) → o ≡ Some line → first_failing 9 (drop 8 rules) r ≡ Some (9, line)
 ninth_fails r o line is found = fails 9 buffers_home [] r o line is found

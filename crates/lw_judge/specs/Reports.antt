@@ -7,7 +7,7 @@ use Rattle.lw_model.specs.Verdict.{verdict}
 use Rattle.lw_report.specs.declared.contents.Contents.{Contents}
 use Rattle.lw_report.specs.Ranges.{InRange}
 use Rattle.lw_report.specs.Report.{reading}
-use Rattle.lw_report.specs.Parsed.{IsStatic, contents_of}
+use Rattle.lw_report.specs.Parsed.{contents_of}
 use Rattle.lw_judge.specs.declared.answer.Verdict.{Verdict}
 use Rattle.lw_judge.specs.declared.answer.Verdict.TheVariants.{Unlawful}
 use Rattle.lw_judge.specs.Verdicts.{verdict_as}
@@ -16,10 +16,9 @@ use Rattle.lw_judge.specs.Verdicts.{verdict_as}
 abbrev pub report_limit : ℕ
 report_limit = 268435456
 
--- the verdict of the static run's record that says these contents
+-- the verdict of the record that says these contents
 pub record IsContentsVerdict (told : Contents) (v : Verdict) : Type 0 where
   pub the : Record
-  pub static : IsStatic the
   pub says : contents_of the ≡ told
   pub verdict : v ≡ verdict_as (verdict the)
 
@@ -36,12 +35,11 @@ IsReportVerdict bytes v = MatchBool (nat_le (length bytes) report_limit) (IsRead
 abbrev pub IsUnlawfulReport : List ℕ → ℕ → ℕ → Type 0
 IsUnlawfulReport bytes clause line = IsReportVerdict bytes (Unlawful clause line)
 
--- the bytes are the text of a lawful record of a static run. Its numbers fit their types, as those of each record that a
--- program holds do: without that a text could be that of two.
+-- the bytes are the text of a lawful record. Its numbers fit their types, as those of each record that a program holds do:
+-- without that a text could be that of two.
 pub record IsLawfulReport (bytes : List ℕ) : Type 0 where
   pub few : length bytes ≤ report_limit
   pub the : Record
-  pub static : IsStatic the
   pub fits : InRange (contents_of the)
   pub text : text_of the ≡ bytes
   pub lawful : Lawful the

@@ -1,6 +1,5 @@
 //! The nine rules, one after another.
 ghost use Rattle.std.specs.Prelude.{◌≡◌, ◌↔◌, [], IfOk, drop};
-ghost use Rattle.lw_base.specs.declared.moves.Scheduler.TheVariants.{Static};
 ghost use Rattle.lw_model.specs.Lawful as lawful;
 ghost use Rattle.lw_model.specs.Threads.{thread_count};
 ghost use Rattle.lw_model.specs.Verdict.{first_failing, rules, verdict};
@@ -11,22 +10,22 @@ ghost use Rattle.lw_judge.specs.Verdicts.{verdict_as};
 ghost use Rattle.lw_judge.specs.Walked.{IsWalkedTo};
 
 use crate::answer::Verdict;
-use crate::homes::{buffers_home, homes_and_hops};
+use crate::homes::buffers_home;
 use crate::numbers::numbers;
 use crate::walk::Walk;
 use lw_base::NoMemory;
 use lw_judge_devices::replies;
 use lw_judge_messages::{Runners, ran_is_sent, visits_seen};
+use lw_judge_rounds::{homes_and_hops, rounds_and_orders};
 use lw_judge_threads::Layout;
 use lw_model::Record;
 use std::alloc::Global;
 
-/// Judges the record of a static run: `Lawful`, or the first rule that fails and the first line at which it does.
+/// Judges a record: `Lawful`, or the first rule that fails and the first line at which it does.
 ///
 /// Each line is looked at a bounded number of times, whatever the record says. Want of memory is the one answer that
 /// may always come.
 pub fn judge(alloc: Global, of: &Record) -> Result<Verdict, NoMemory>
-    requires { of.now.scheduler ≡ Static }
     ensures verdict { IfOk result (λ v. v ≡ verdict_as (verdict of.now)) }
     ensures lawful { IfOk result (λ v. (v ≡ answer.Lawful) ↔ lawful.Lawful of.now) }
 {
@@ -37,12 +36,11 @@ pub fn judge(alloc: Global, of: &Record) -> Result<Verdict, NoMemory>
 // Judges all rules. What each of these calls is given is its caller's, so that nothing has to be given back where memory is
 // lacking.
 fn judge_laid_out(alloc: Global, of: &Record, layout: &Layout) -> Result<Verdict, NoMemory>
-    requires scheduler { of.now.scheduler ≡ Static }
     requires layout { IsLayout of.now layout.now }
     ensures verdict { IfOk result (λ v. v ≡ verdict_as (verdict of.now)) }
     ensures lawful { IfOk result (λ v. (v ≡ answer.Lawful) ↔ lawful.Lawful of.now) }
 {
-    if let Some(line) = homes_and_hops(of, layout.threads.as_slice()) {
+    if let Some(line) = homes_and_hops(alloc, of, layout.threads.as_slice())? {
         return Ok(Verdict::Unlawful { clause: 1, line });
     }
     if let Some(line) = numbers(alloc, of, layout.threads.as_slice())? {
@@ -53,7 +51,6 @@ fn judge_laid_out(alloc: Global, of: &Record, layout: &Layout) -> Result<Verdict
 
 // Judges the rules from the third on.
 fn judge_own_orders(alloc: Global, of: &Record, layout: &Layout) -> Result<Verdict, NoMemory>
-    requires scheduler { of.now.scheduler ≡ Static }
     requires layout { IsLayout of.now layout.now }
     ensures { IfOk result (λ v. v ≡ verdict_as (first_failing 3 (drop 2 rules) of.now)) }
 {
@@ -70,7 +67,6 @@ fn judge_walked(
     runners: &Runners,
     walk: &Walk,
 ) -> Result<Verdict, NoMemory>
-    requires scheduler { of.now.scheduler ≡ Static }
     requires layout { IsLayout of.now layout.now }
     requires runners { AreRunners of.now runners.now }
     requires walked { IsWalkedTo of.now (thread_count of.now.script) [] walk.now }
@@ -89,7 +85,7 @@ fn judge_walked(
     judge_ends(alloc, of, layout, runners, walk)
 }
 
-// Judges the rules from the sixth on. A static run has no rounds, so that the eighth holds.
+// Judges the rules from the sixth on.
 fn judge_ends(
     alloc: Global,
     of: &Record,
@@ -97,7 +93,6 @@ fn judge_ends(
     runners: &Runners,
     walk: &Walk,
 ) -> Result<Verdict, NoMemory>
-    requires scheduler { of.now.scheduler ≡ Static }
     requires layout { IsLayout of.now layout.now }
     requires runners { AreRunners of.now runners.now }
     requires walked { IsWalkedTo of.now (thread_count of.now.script) [] walk.now }
@@ -109,6 +104,17 @@ fn judge_ends(
     let lines = layout.threads.as_slice();
     if let Some(line) = visits_seen(of, lines, runners, &walk.marks) {
         return Ok(Verdict::Unlawful { clause: 7, line });
+    }
+    judge_rounds(alloc, of, layout)
+}
+
+// Judges the last two rules.
+fn judge_rounds(alloc: Global, of: &Record, layout: &Layout) -> Result<Verdict, NoMemory>
+    requires { IsLayout of.now layout.now }
+    ensures { IfOk result (λ v. v ≡ verdict_as (first_failing 8 (drop 7 rules) of.now)) }
+{
+    if let Some(line) = rounds_and_orders(alloc, of, layout.clock)? {
+        return Ok(Verdict::Unlawful { clause: 8, line });
     }
     match buffers_home(of, layout.home) {
         Some(line) => Ok(Verdict::Unlawful { clause: 9, line }),

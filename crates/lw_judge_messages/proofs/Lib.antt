@@ -8,7 +8,6 @@ mod SeenTests
 mod SendSteps
 mod SenderCounts
 mod Sending
-pub mod ThreadCounts
 mod TokenLemmas
 mod VisitMarks
 mod VisitResults

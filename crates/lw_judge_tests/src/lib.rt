@@ -21,6 +21,8 @@ mod replies;
 #[cfg(test)]
 mod reports;
 #[cfg(test)]
+mod rounds;
+#[cfg(test)]
 mod seen;
 #[cfg(test)]
 mod sent;

@@ -8,6 +8,7 @@ mod Layouts
 pub mod Leasts
 pub mod Named
 mod Numbered
+pub mod ThreadCounts
 pub mod Threads
 pub mod Wanted
 pub mod Written

@@ -1,22 +1,19 @@
 -- A rule that is judged thread by thread.
-use Rattle.std.proofs.Common.{◌≡◌, ℕ, suc, ◌+◌, ◌<◌, ◌≤◌, ◌^◌, ◌==◌, ◌%◌, ◌&&◌, nat_le, Bool, true, false, cond, List, [], ◌∷◌, length, get_or, flat_map, Option, Some, None, unwrap_or, option_map, slice_get, IfSome, refl, sym, ap, ap₂, subst, ◌∙◌, arith}
-use Rattle.std.specs.List.{range_with_len, list_any}
+use Rattle.std.proofs.Common.{◌≡◌, ℕ, suc, ◌+◌, ◌<◌, ◌≤◌, ◌^◌, ◌==◌, nat_le, Bool, true, false, cond, List, [], ◌∷◌, length, get_or, flat_map, Option, Some, None, unwrap_or, option_map, slice_get, IfSome, sym, ap, ap₂, subst, ◌∙◌, arith}
+use Rattle.std.specs.List.{range_with_len}
 use Rattle.std.proofs.lemmas.Bool.{and_parts, leb-true}
-use Rattle.std.proofs.lemmas.Bool.Decides.{nat_tests}
 use Rattle.std.proofs.lemmas.Option.{slice_get-get_or}
 use Rattle.lw_model.specs.declared.record.Record.{Record}
 use Rattle.lw_model.specs.declared.record.ThreadRecord.{ThreadRecord}
-use Rattle.lw_base.specs.declared.moves.Hop.{Hop}
 use Rattle.lw_model.specs.Threads.{of_thread, ran_of, threads, thread_count}
 use Rattle.lw_model.specs.Lines.{thread_line, hop_line, ran_line}
-use Rattle.lw_model.specs.Moves.{home_of, first_reactor, hops_of, hop_fits, is_above_last, number_fits}
+use Rattle.lw_model.specs.Moves.{home_of, first_reactor, hops_of, hop_fits, number_fits}
 use Rattle.lw_model.specs.Verdict.{Test, least_failing, each_line}
 use Rattle.lw_judge_threads.specs.declared.lines.ThreadLines.{ThreadLines}
 use Rattle.lw_judge_threads.specs.Firsts.{first_unfit, at_line, lesser}
 use Rattle.lw_judge_threads.specs.LinesOf.{StandsAt, AreThreadLines}
 use Rattle.lw_model.proofs.Printed.{parts}
-use Rattle.lw_model.proofs.Homes.{first_reactor_is}
-use Rattle.lw_judge_threads.proofs.Leasts.{least-cons, least-each_line, least_push}
+use Rattle.lw_judge_threads.proofs.Leasts.{least-each_line, least_push}
 
 -- the tests of the threads below n, and those of thread n
 pub least_threads : (f : ℕ → List Test) (n : ℕ) → least_failing (flat_map f (range_with_len 0 (n + 1))) ≡ lesser (least_failing (flat_map f (range_with_len 0 n))) (least_failing (f n))
@@ -65,46 +62,7 @@ ran_fits r t x l at stands = omega (arith, stands.ran, stands.follow, ran)
     ran : length (ran_of r t) ≡ length x.ran
     ran = ap length (listed (λ x. x.ran) r t x at)
 
--- ---- Homes and hops, where there are no rounds
-
-unordered : (r : Record) (t : ℕ) → r.rounds ≡ [] → (past : List Hop) (h : Hop) → hop_fits r t past h ≡ false
-unordered r t none past h =
-    ap (λ xs. is_above_last past h && list_any (λ x. x.number == h.round && list_any (λ o. o.thread == t && o.to == h.reactor) x.orders) xs) none ∙ no_both (is_above_last past h)
-  where
-    no_both : (b : Bool) → (b && false) ≡ false
-    no_both true = refl
-    no_both false = refl
-
-first_hop : (r : Record) (t : ℕ) → r.rounds ≡ [] → (hs : List Hop) → first_unfit (hop_fits r t) 0 [] hs ≡ cond (length hs == 0) None (Some 0)
-first_hop r t none [] = refl
-first_hop r t none (h ∷ hs) = ap (λ b. cond b (first_unfit (hop_fits r t) (0 + 1) (h ∷ []) hs) (Some 0)) (unordered r t none [] h) ∙ ap (λ (b : Bool). cond b None (Some 0)) (sym (some (length hs)))
-  where
-    some : (n : ℕ) → (suc n == 0) ≡ false
-    some n = grind (arith, nat_tests)
-
-pub homes_of : (r : Record) (t : ℕ) (x : ThreadRecord) (l : ThreadLines) → slice_get r.threads t ≡ Some x → StandsAt r t l → r.rounds ≡ []
-    → lesser (cond (x.home == t % r.reactors) None (Some l.thread)) (cond (length x.hops == 0) None (Some l.hops))
-    ≡ least_failing ((thread_line r t, home_of r t == first_reactor r t) ∷ each_line (hop_line r t) (hop_fits r t) (hops_of r t))
-homes_of r t x l at stands none =
-    ap₂ lesser first hops
-    ∙ sym (least-cons (thread_line r t) (home_of r t == first_reactor r t) (each_line (hop_line r t) (hop_fits r t) (hops_of r t)))
-  where
-    home : home_of r t ≡ x.home
-    home = ap (λ o. unwrap_or (option_map (λ (x : ThreadRecord). x.home) o) 0) at
-
-    first : cond (x.home == t % r.reactors) None (Some l.thread) ≡ cond (home_of r t == first_reactor r t) None (Some (thread_line r t))
-    first = ap₂ (λ h n. cond (h == t % r.reactors) None (Some n)) (sym home) stands.thread
-        ∙ ap (λ f. cond (home_of r t == f) None (Some (thread_line r t))) (sym (first_reactor_is r t))
-
-    place : (b : Bool) → ◌≡◌ {A = Option ℕ} (at_line (hop_line r t 0) (cond b None (Some 0))) (cond b None (Some (hop_line r t 0)))
-    place true = refl
-    place false = ap Some (omega arith)
-
-    hops : cond (length x.hops == 0) None (Some l.hops) ≡ least_failing (each_line (hop_line r t) (hop_fits r t) (hops_of r t))
-    hops = ap₂ (λ hs n. cond (length hs == 0) None (Some n)) (sym (listed (λ x. x.hops) r t x at)) stands.hops
-        ∙ sym (place (length (hops_of r t) == 0))
-        ∙ ap (at_line (hop_line r t 0)) (sym (first_hop r t none (hops_of r t)))
-        ∙ sym (least-each_line (hop_line r t) (hop_line r t 0) (λ i. omega arith) (hop_fits r t) (hops_of r t))
+-- ---- What is read
 
 -- what stands where there is no thread
 abbrev pub no_lines : ThreadLines
@@ -145,14 +103,6 @@ numbers_within r t x l o is found = subst (λ q. IfSome q (λ i. l.ran + i < 2 ^
 -- the tests of homes and hops that a thread has
 abbrev pub home_tests : Record → ℕ → List Test
 home_tests r t = (thread_line r t, home_of r t == first_reactor r t) ∷ each_line (hop_line r t) (hop_fits r t) (hops_of r t)
-
-pub homes_more : (r : Record) (t : ℕ) (x : ThreadRecord) (l : ThreadLines) (least next found : Option ℕ) → Read r t x l → r.rounds ≡ []
-    → least ≡ least_failing (flat_map (home_tests r) (range_with_len 0 t))
-    → found ≡ lesser (cond (x.home == t % r.reactors) None (Some l.thread)) (cond (length x.hops == 0) None (Some l.hops)) → next ≡ lesser least found
-    → next ≡ least_failing (flat_map (home_tests r) (range_with_len 0 (t + 1)))
-homes_more r t x l least next found is none so_far here more =
-    more ∙ ap₂ lesser so_far (here ∙ homes_of r t x l is.here is.stands none)
-    ∙ sym (least_threads (home_tests r) t)
 
 -- there is a reactor
 pub some_reactor : (r : Record) → 0 < r.reactors

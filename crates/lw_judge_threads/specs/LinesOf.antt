@@ -4,7 +4,7 @@ use Rattle.lw_model.specs.declared.record.Record.{Record}
 use Rattle.lw_model.specs.declared.record.ThreadRecord.{ThreadRecord}
 use Rattle.lw_model.specs.declared.step.Step.{Step}
 use Rattle.lw_model.specs.declared.step.Step.TheVariants as step
-use Rattle.lw_model.specs.Lines.{size_of, thread_line, hop_line, ran_line, did_line, called_line, reply_line, seen_line, device_line, clock_line}
+use Rattle.lw_model.specs.Lines.{size_of, thread_line, hop_line, ran_line, did_line, called_line, reply_line, seen_line, device_line, clock_line, home_line}
 use Rattle.lw_model.specs.Threads.{did_of}
 use Rattle.lw_judge_threads.specs.declared.lines.ThreadLines.{ThreadLines}
 use Rattle.lw_judge_threads.specs.declared.lines.Layout.{Layout}
@@ -43,9 +43,10 @@ abbrev pub IsPlaced : Record → ℕ → Step → Type 0
 IsPlaced r t (step.Did i x) = i < length (did_of r t)
 IsPlaced r t _ = Unit {0}
 
--- where the lines of a static run's record stand
+-- where a record's lines stand
 pub record IsLayout (r : Record) (l : Layout) : Type 0 where
   pub threads : AreThreadLines r l.threads.items
   pub devices : l.devices ≡ device_line r 0
-  pub home : l.home ≡ clock_line r
+  pub clock : l.clock ≡ clock_line r
+  pub home : l.home ≡ home_line r
   pub few : clock_line r < 2 ^ 64

@@ -11,7 +11,7 @@ mod order;
 
 pub use against::Against;
 pub use holding::Holding;
-pub use lines::{Layout, ThreadLines, at_line, failing, lesser};
+pub use lines::{Layout, ThreadLines, after, at_line, behind_round, failing, lesser};
 pub use numbering::is_numbering;
 pub use ops::{image_at, op_at};
 pub use order::own_order;

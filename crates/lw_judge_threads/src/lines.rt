@@ -1,10 +1,11 @@
 //! The numbers of a record's lines in its text.
 ghost use Rattle.std.specs.Prelude.{◌≡◌, ◌+◌, ◌<◌, ◌^◌, IfOk, IfSome, None, Some, cond, length};
-ghost use Rattle.lw_model.specs.Lines.{head_size};
+ghost use Rattle.std.specs.List.{sum_by};
+ghost use Rattle.lw_model.specs.Lines.{head_size, round_size};
 ghost use Rattle.lw_judge_threads.specs.Firsts.{at_line, lesser};
 ghost use Rattle.lw_judge_threads.specs.LinesOf.{AreLines, IsLayout};
 
-use lw_base::NoMemory;
+use lw_base::{NoMemory, Round};
 use lw_model::{Record, Script, ThreadRecord};
 use std::alloc::{AllocError, Global};
 
@@ -22,13 +23,15 @@ pub struct ThreadLines {
     pub behind: u64,
 }
 
-/// Where the lines of a static run's record stand.
+/// Where a record's lines stand.
 #[derive(Drop)]
 pub struct Layout {
     /// The lines of each thread.
     pub threads: Vec<ThreadLines>,
     /// The line of device 0.
     pub devices: u64,
+    /// The line behind the devices': a dynamic run's `clock` line.
+    pub clock: u64,
     /// The line of the pool's counts.
     pub home: u64,
 }
@@ -46,13 +49,38 @@ impl Layout {
             behind = lines.behind;
             threads.push(lines)?;
         }
-        let home = after(behind, of.devices.len())?;
+        let clock = after(behind, of.devices.len())?;
+        let home = match of.span {
+            Some(_) => behind_rounds(of.rounds.as_slice(), after(clock, 1)?)?,
+            None => clock,
+        };
         Ok(Layout {
             threads,
             devices: behind,
+            clock,
             home,
         })
     }
+}
+
+// The line behind rounds of which the first has this line.
+fn behind_rounds(rounds: &[Round], first: u64) -> Result<u64, NoMemory>
+    ensures { IfOk result (λ n. n ≡ first + sum_by round_size rounds.now) }
+{
+    let mut line = first;
+    for round in rounds {
+        line = behind_round(round, line)?;
+    }
+    Ok(line)
+}
+
+/// The line behind a round whose line this is, by `after`.
+pub fn behind_round(round: &Round, line: u64) -> Result<u64, NoMemory>
+    ensures sum { IfOk result (λ n. n ≡ line + round_size round.now) }
+    ensures few { IfOk result (λ n. n < 2 ^ 64) }
+{
+    let rows = after(line, 1)?;
+    after(after(rows, round.rows.len())?, round.orders.len())
 }
 
 // The lines before the first thread's.
@@ -66,8 +94,8 @@ fn head_size(script: &Script) -> Result<u64, NoMemory>
     Ok(size)
 }
 
-// The line behind so many.
-fn after(first: u64, count: usize) -> Result<u64, NoMemory>
+/// The line after so many from the first on. One whose number doesn't fit isn't in any memory.
+pub fn after(first: u64, count: usize) -> Result<u64, NoMemory>
     ensures sum { IfOk result (λ n. n ≡ first + count) }
     ensures few { IfOk result (λ n. n < 2 ^ 64) }
 {

@@ -3,4 +3,5 @@ pub mod LineLemmas
 pub mod Local
 pub mod NamedLines
 pub mod ReportLocal
-pub mod RunReports
+pub mod RoundsLocal
+mod RunReports

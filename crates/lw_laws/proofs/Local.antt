@@ -1,6 +1,6 @@
 -- A reader of lines is local: what it says up to a line depends on no line behind it.
 use Rattle.std.proofs.Common.{◌≡◌, ◌≤◌, ◌<◌, ℕ, zero, suc, ◌+◌, ◌-◌, if◌then◌else◌, List, [], ◌∷◌, take, Option, Some, None, Result, Ok, Err, refl, sym, ap, ◌∙◌, subst, arith}
-use Rattle.lw_report.specs.Machine.{State, ◌>>=◌, one, many_from, many, numbered}
+use Rattle.lw_report.specs.Machine.{State, ◌>>=◌, taken, one, many_from, many, numbered}
 use Rattle.lw_base.specs.TextLines.{is_nil}
 
 abbrev pub state : ℕ → List (List ℕ) → State
@@ -50,7 +50,7 @@ module _ {X : Type 0} where
   err_value : {m n : ℕ} → ◌≡◌ {A = Result (X × State) ℕ} (Err m) (Err n) → m ≡ n
   err_value e = cc
 
-  not_ok : {x : X} {s : State} {m : ℕ} {C : Type 0} → ◌≡◌ {A = Result (X × State) ℕ} (Ok (x, s)) (Err m) → C
+  pub not_ok : {x : X} {s : State} {m : ℕ} {C : Type 0} → ◌≡◌ {A = Result (X × State) ℕ} (Ok (x, s)) (Err m) → C
   not_ok e = cc
 
   not_err : {x : X} {s : State} {m : ℕ} {C : Type 0} → ◌≡◌ {A = Result (X × State) ℕ} (Err m) (Ok (x, s)) → C
@@ -182,6 +182,64 @@ module _ {X : Type 0} (f : List ℕ → Option X) where
           state (s.line + 1) read.0,
           ap (λ n. one f (state n t.lines)) (sym a.line) ∙ read.1,
           record { line = next; lines = subst (λ k. take k s'.lines ≡ take k read.0) (sym left) read.2 },
+        );
+  }
+
+  -- ---- a line that may be of the kind
+
+  abbrev perhaps : ℕ → List ℕ → List (List ℕ) → Option X → Option X × State
+  perhaps n l ls (Some x) = (Some x, state (n + 1) ls)
+  perhaps n l ls None = (None, state n (l ∷ ls))
+
+  taken_cons : (n : ℕ) (l : List ℕ) (ls : List (List ℕ)) (o : Option X) → f l ≡ o → taken f (state n (l ∷ ls)) ≡ perhaps n l ls o
+  taken_cons n l ls (Some x) e = ap (λ (o : Option X). elim o as (λ _. Option X × State) [ Some y ↦ (Some y, state (n + 1) ls) | None ↦ (None, state n (l ∷ ls)) ]) e
+  taken_cons n l ls None e = ap (λ (o : Option X). elim o as (λ _. Option X × State) [ Some y ↦ (Some y, state (n + 1) ls) | None ↦ (None, state n (l ∷ ls)) ]) e
+
+  taken_goes_on : (n : ℕ) (ls : List (List ℕ)) → n ≤ (taken f (state n ls)).1.line
+  taken_goes_on n [] = omega arith
+  taken_goes_on n (l ∷ ls) = at (f l) refl
+    where
+      at : (o : Option X) → f l ≡ o → n ≤ (taken f (state n (l ∷ ls))).1.line
+      at (Some x) is = subst (λ (p : Option X × State). n ≤ p.1.line) (sym (taken_cons n l ls (Some x) is)) (omega arith)
+      at None is = subst (λ (p : Option X × State). n ≤ p.1.line) (sym (taken_cons n l ls None is)) (omega arith)
+
+  -- the same line is taken or none, and what is left agrees
+  abbrev SameLine : ℕ → Option X × State → Option X × State → Type 0
+  SameLine end p q = (q.0 ≡ p.0) × Agree end p.1 q.1
+
+  taken_reads : (end n : ℕ) (ls ms : List (List ℕ)) → take (end - n) ls ≡ take (end - n) ms → n < end → SameLine end (taken f (state n ls)) (taken f (state n ms))
+  taken_reads end n [] ms a below =
+      let some = visible end n below in
+      let none : ms ≡ [] = nothing_more some.0 ms (subst (λ k. take k [] ≡ take k ms) some.1 a) in
+      subst (λ z. SameLine end (taken f (state n [])) (taken f (state n z))) (sym none) (refl, record { line = refl; lines = refl })
+  taken_reads end n (l ∷ ls) ms a below = at (f l) refl
+    where
+      at : (o : Option X) → f l ≡ o → SameLine end (taken f (state n (l ∷ ls))) (taken f (state n ms))
+      at o is =
+          let some = visible end n below in
+          let front = first_same some.0 l ls ms (subst (λ k. take k (l ∷ ls) ≡ take k ms) some.1 a) in
+          subst (λ z. SameLine end (taken f (state n (l ∷ ls))) (taken f (state n z))) (sym front.1)
+          (subst (λ p. SameLine end p (taken f (state n (l ∷ front.0)))) (sym (taken_cons n l ls o is))
+          (subst (λ q. SameLine end (perhaps n l ls o) q) (sym (taken_cons n l front.0 o is)) (by o front.0 some.0 some.1 front.2 (a ∙ ap (take (end - n)) front.1))))
+        where
+          by : (o : Option X) (rest : List (List ℕ)) (k : ℕ) → end - n ≡ suc k → take k ls ≡ take k rest → take (end - n) (l ∷ ls) ≡ take (end - n) (l ∷ rest) → SameLine end (perhaps n l ls o) (perhaps n l rest o)
+          by (Some x) rest k is behind all = let left : end - (n + 1) ≡ k = omega (arith, is) in (refl, record { line = refl; lines = subst (λ k. take k ls ≡ take k rest) (sym left) behind })
+          by None rest k is behind all = (refl, record { line = refl; lines = all })
+
+  pub taken_local : Local (λ s. Ok (taken f s))
+  taken_local = record {
+    fails_on = λ s m e. not_ok e;
+    goes_on = λ s s' o e. subst (λ (z : State). s.line ≤ z.line) (ok_value e).1 (taken_goes_on s.line s.lines);
+    fails = λ end s t m a e below. not_ok e;
+    reads = λ end s t s' o a e below.
+        let is : (taken f s).1 ≡ s' = (ok_value e).1 in
+        let from = taken_goes_on s.line s.lines in
+        let last : (taken f s).1.line ≡ s'.line = ap (λ (z : State). z.line) is in
+        let read = taken_reads end s.line s.lines t.lines a.lines (omega (arith, from, last, below)) in
+        let same : taken f t ≡ taken f (state s.line t.lines) = ap (λ n. taken f (state n t.lines)) (sym a.line) in (
+          (taken f t).1,
+          ap (λ z. Ok (z, (taken f t).1)) (ap (λ (q : Option X × State). q.0) same ∙ read.0 ∙ (ok_value e).0),
+          subst (λ z. Agree end z (taken f t).1) is (subst (λ (q : Option X × State). Agree end (taken f s).1 q.1) (sym same) read.1),
         );
   }
 

@@ -1,4 +1,4 @@
--- The reading of a report is local, so no static record's text begins as bytes do up to their first bad line.
+-- The reading of a report is local, so no record's text begins as bytes do up to their first bad line.
 use Rattle.std.proofs.Common.{◌≡◌, ℕ, ◌+◌, ◌-◌, Bool, true, false, if◌then◌else◌, List, length, take, is_none, Result, Ok, Err, refl, sym, ap, ◌∙◌, arith}
 use Rattle.lw_base.specs.TextLines.{pieces}
 use Rattle.lw_model.specs.declared.script.Script.{Script}
@@ -7,18 +7,26 @@ use Rattle.lw_model.specs.declared.record.RoleKind.{RoleKind}
 use Rattle.lw_model.specs.declared.record.RoleKind.TheVariants.{App, Client, Owner}
 use Rattle.lw_model.specs.ScriptRules.{rule_broken}
 use Rattle.lw_model.specs.ReportText.{text_of}
+use Rattle.lw_base.specs.declared.ends.DeviceEnd.{DeviceEnd}
+use Rattle.lw_base.specs.declared.ends.Home.{Home}
+use Rattle.lw_model.specs.declared.record.ThreadRecord.{ThreadRecord}
 use Rattle.lw_report.specs.declared.contents.Contents.{Contents}
-use Rattle.lw_report_lines.specs.declared.single.FixedLine.TheVariants.{Title, StaticScheduler, End}
+use Rattle.lw_report.specs.declared.contents.Head.{Head}
+use Rattle.lw_report.specs.declared.contents.Moves.{Moves}
+use Rattle.lw_report_lines.specs.declared.single.FixedLine.TheVariants.{Title, End}
 use Rattle.lw_report_lines.specs.declared.single.NumberLine.{NumberLine}
 use Rattle.lw_report_lines.specs.declared.single.NumberLine.TheVariants.{Period, Images, Clients}
 use Rattle.lw_report_lines.specs.declared.single.PairLine.TheVariants.{Pool, Left}
 use Rattle.lw_report_lines.specs.Once.{fixed_in, number_of_in, pair_of_in, reactors_in}
+use Rattle.lw_report_lines.specs.MoveLines.{scheduler_in}
 use Rattle.lw_report_lines.specs.LineKinds.{hop_in, ran_in, did_in, called_in, reply_in, seen_in, thread_in, device_in, image_in, client_in, op_in}
 use Rattle.lw_report.specs.Machine.{State, ◌>>=◌, one, many, numbered}
-use Rattle.lw_report.specs.Report.{list_at, client_at, accepted, script_at, role_at, client_lines, thread_lines, thread_at, finished, threads_at, devices_at, rest_at, report_at, reading}
-use Rattle.lw_report.specs.Parsed.{contents_of, IsStatic}
+use Rattle.lw_report.specs.Report.{list_at, client_at, accepted, script_at, role_at, client_lines, thread_lines, thread_at, finished, threads_at, devices_at, head_at, rest_at, report_at, reading}
+use Rattle.lw_report.specs.Rounds.{moves_at}
+use Rattle.lw_report.specs.Parsed.{contents_of}
 use Rattle.lw_report.specs.Ranges.{InRange}
 use Rattle.lw_report.proofs.TextsBack.{text_read}
+use Rattle.lw_laws.proofs.RoundsLocal.{moves_local}
 use Rattle.lw_laws.proofs.Local.{state, Agree, Reader, Local, pure_local, both_local, one_local, many_local, numbered_local, finished_local, bad_local}
 
 list_local : {X : Type 0} (kind : NumberLine) (part : ℕ → Reader X) → ((i : ℕ) → Local (part i)) → Local (list_at kind part)
@@ -101,36 +109,54 @@ devices_local : (script : Script) → Local (devices_at script)
 unfolding devices_at
 devices_local script = numbered_local (length script.images) 0 (λ d. one (device_in d)) (λ d. one_local (device_in d))
 
-rest_local : (reactors period : ℕ) (script : Script) → Local (rest_at reactors period script)
-rest_local reactors period script =
+-- what the lines behind the script say
+abbrev told : Head → Script → List ThreadRecord → List DeviceEnd → Moves → Home → Contents
+told head script threads devices moves home = record {
+  script = script;
+  scheduler = head.scheduler;
+  reactors = head.reactors;
+  period = head.period;
+  threads = threads;
+  devices = devices;
+  span = moves.span;
+  rounds = moves.rounds;
+  home = home;
+}
+
+rest_local : (head : Head) (script : Script) → Local (rest_at head script)
+rest_local head script =
     both_local (threads_at script)
-    (λ threads s. devices_at script s >>= (λ devices. one (pair_of_in Left) devices.1 >>= (λ home. one (fixed_in End) home.1 >>= (λ end. finished (record { script = script; reactors = reactors; period = period; threads = threads; devices = devices.0; home = home.0 }) end.1))))
+    (λ threads s. devices_at script s >>= (λ devices. moves_at head.scheduler devices.1 >>= (λ moves. one (pair_of_in Left) moves.1 >>= (λ home. one (fixed_in End) home.1 >>= (λ end. finished (told head script threads devices.0 moves.0 home.0) end.1)))))
     (threads_local script)
     (λ threads. both_local (devices_at script)
-    (λ devices s. one (pair_of_in Left) s >>= (λ home. one (fixed_in End) home.1 >>= (λ end. finished (record { script = script; reactors = reactors; period = period; threads = threads; devices = devices; home = home.0 }) end.1)))
+    (λ devices s. moves_at head.scheduler s >>= (λ moves. one (pair_of_in Left) moves.1 >>= (λ home. one (fixed_in End) home.1 >>= (λ end. finished (told head script threads devices moves.0 home.0) end.1))))
     (devices_local script)
-    (λ devices. both_local (one (pair_of_in Left))
-    (λ home s. one (fixed_in End) s >>= (λ end. finished (record { script = script; reactors = reactors; period = period; threads = threads; devices = devices; home = home }) end.1))
+    (λ devices. both_local (moves_at head.scheduler)
+    (λ moves s. one (pair_of_in Left) s >>= (λ home. one (fixed_in End) home.1 >>= (λ end. finished (told head script threads devices moves home.0) end.1)))
+    (moves_local head.scheduler)
+    (λ moves. both_local (one (pair_of_in Left))
+    (λ home s. one (fixed_in End) s >>= (λ end. finished (told head script threads devices moves home) end.1))
     (one_local (pair_of_in Left))
-    (λ home. both_local (one (fixed_in End))
-    (λ end s. finished (record { script = script; reactors = reactors; period = period; threads = threads; devices = devices; home = home }) s)
-    (one_local (fixed_in End)) (λ end. finished_local _))))
+    (λ home. both_local (one (fixed_in End)) (λ end s. finished (told head script threads devices moves home) s) (one_local (fixed_in End)) (λ end. finished_local _)))))
+
+head_local : Local head_at
+unfolding head_at
+head_local =
+    both_local (one (fixed_in Title))
+    (λ title s. one scheduler_in s >>= (λ scheduler. one reactors_in scheduler.1 >>= (λ reactors. one (number_of_in Period) reactors.1 >>= (λ period. Ok (record { scheduler = scheduler.0; reactors = reactors.0; period = period.0 }, period.1)))))
+    (one_local (fixed_in Title))
+    (λ title. both_local (one scheduler_in)
+    (λ scheduler s. one reactors_in s >>= (λ reactors. one (number_of_in Period) reactors.1 >>= (λ period. Ok (record { scheduler = scheduler; reactors = reactors.0; period = period.0 }, period.1))))
+    (one_local scheduler_in)
+    (λ scheduler. both_local (one reactors_in)
+    (λ reactors s. one (number_of_in Period) s >>= (λ period. Ok (record { scheduler = scheduler; reactors = reactors; period = period.0 }, period.1)))
+    (one_local reactors_in)
+    (λ reactors. both_local (one (number_of_in Period)) (λ period s. Ok (record { scheduler = scheduler; reactors = reactors; period = period }, s)) (one_local (number_of_in Period)) (λ period. pure_local _))))
 
 report_local : Local report_at
 report_local =
-    both_local (one (fixed_in Title))
-    (λ title s. one (fixed_in StaticScheduler) s >>= (λ scheduler. one reactors_in scheduler.1 >>= (λ reactors. one (number_of_in Period) reactors.1 >>= (λ period. script_at period.1 >>= (λ script. rest_at reactors.0 period.0 script.0 script.1)))))
-    (one_local (fixed_in Title))
-    (λ title. both_local (one (fixed_in StaticScheduler))
-    (λ scheduler s. one reactors_in s >>= (λ reactors. one (number_of_in Period) reactors.1 >>= (λ period. script_at period.1 >>= (λ script. rest_at reactors.0 period.0 script.0 script.1))))
-    (one_local (fixed_in StaticScheduler))
-    (λ scheduler. both_local (one reactors_in)
-    (λ reactors s. one (number_of_in Period) s >>= (λ period. script_at period.1 >>= (λ script. rest_at reactors period.0 script.0 script.1)))
-    (one_local reactors_in)
-    (λ reactors. both_local (one (number_of_in Period))
-    (λ period s. script_at s >>= (λ script. rest_at reactors period script.0 script.1))
-    (one_local (number_of_in Period))
-    (λ period. both_local script_at (λ script s. rest_at reactors period script s) script_local (λ script. rest_local reactors period script)))))
+    both_local head_at (λ head s. script_at s >>= (λ script. rest_at head script.0 script.1)) head_local
+    (λ head. both_local script_at (λ script s. rest_at head script s) script_local (λ script. rest_local head script))
 
 -- bytes that agree with others up to their first bad line have it too
 bad_line_local : (xs ys : List ℕ) (n : ℕ) → take n (pieces xs) ≡ take n (pieces ys) → reading xs ≡ Err n → reading ys ≡ Err n
@@ -147,7 +173,7 @@ bad_line_local xs ys n same e =
     agree : Agree (n + 1) (state 1 (pieces xs)) (state 1 (pieces ys))
     agree = record { line = refl; lines = ap (λ k. take k (pieces xs)) count ∙ same ∙ sym (ap (λ k. take k (pieces ys)) count) }
 
-pub no_record_begins : (bytes : List ℕ) (n : ℕ) → reading bytes ≡ Err n → (r : Record) → IsStatic r → InRange (contents_of r) → ¬ (take n (pieces (text_of r)) ≡ take n (pieces bytes))
-no_record_begins bytes n bad r is range same =
-    let read = text_read r is range in
+pub no_record_begins : (bytes : List ℕ) (n : ℕ) → reading bytes ≡ Err n → (r : Record) → InRange (contents_of r) → ¬ (take n (pieces (text_of r)) ≡ take n (pieces bytes))
+no_record_begins bytes n bad r range same =
+    let read = text_read r range in
     let wrong : ◌≡◌ {A = Result Contents ℕ} (Ok (contents_of r)) (Err n) = sym read ∙ bad_line_local bytes (text_of r) n (sym same) bad in cc

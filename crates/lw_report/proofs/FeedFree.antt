@@ -1,5 +1,5 @@
 -- No line of a record has a line feed within it, so the text falls into just its lines.
-use Rattle.std.proofs.Common.{◌≡◌, ℕ, ◌+◌, ◌==◌, nat_le, Bool, true, false, ◌||◌, not, if◌then◌else◌, List, [], ◌∷◌, ◌++◌, map, length, flat_map, codes, decimal, append_assoc, None, refl, sym, ap, subst, ◌∙◌, arith}
+use Rattle.std.proofs.Common.{◌≡◌, ℕ, ◌+◌, ◌==◌, nat_le, Bool, true, false, ◌||◌, not, if◌then◌else◌, List, [], ◌∷◌, ◌++◌, map, length, flat_map, codes, decimal, append_assoc, Option, Some, None, refl, sym, ap, subst, ◌∙◌, arith}
 use Rattle.std.specs.List.{list_all, enumerate_from, AllByRecursion}
 use Rattle.std.proofs.lemmas.Bool.{and_parts, and_from, leb-true, ne_eqb, false≢true}
 use Rattle.std.proofs.lemmas.Fmt.{digits_decimal}
@@ -12,7 +12,12 @@ use Rattle.lw_model.specs.declared.script.ImageOf.{ImageOf}
 use Rattle.lw_model.specs.declared.script.ClientOf.{ClientOf}
 use Rattle.lw_model.specs.declared.script.Op.{Op}
 use Rattle.lw_model.specs.declared.script.Op.TheVariants as op
-use Rattle.lw_base.specs.declared.moves.Scheduler.TheVariants.{Static}
+use Rattle.lw_base.specs.declared.moves.Order.{Order}
+use Rattle.lw_base.specs.declared.moves.Round.{Round}
+use Rattle.lw_base.specs.declared.moves.Row.{Row}
+use Rattle.lw_base.specs.declared.moves.Scheduler.{Scheduler}
+use Rattle.lw_base.specs.declared.moves.Scheduler.TheVariants.{Static, Dynamic}
+use Rattle.lw_model.specs.declared.record.Span.{Span}
 use Rattle.lw_model.specs.declared.record.ThreadRecord.{ThreadRecord}
 use Rattle.lw_model.specs.declared.record.RoleKind.{RoleKind}
 use Rattle.lw_model.specs.declared.record.RoleKind.TheVariants.{App, Client, Owner}
@@ -29,8 +34,8 @@ use Rattle.lw_model.specs.declared.record.SeenBy.{SeenBy}
 use Rattle.lw_model.specs.declared.record.SeenBy.TheVariants as by
 use Rattle.lw_base.specs.declared.ends.DeviceEnd.{DeviceEnd}
 use Rattle.lw_model.specs.ScriptRules.{is_within, is_name, is_name_byte}
-use Rattle.lw_model.specs.ReportText.{line, count_of, image_line, op_words, op_line, client_lines, hop_line, what_words, ran_line, answer_words, did_line, called_line, replied_words, reply_line, mark_word, result_words, seen_line, role_word, thread_line, thread_lines, device_line, text_of_lines}
-use Rattle.lw_model.specs.Ranges.{Fits32, Fits64, WhatFits, TagFits, HopFits, AnswerFits, DidFits, CalledFits, RepliedFits, ReplyFits, MarkFits, SeenByFits, SeenFits, DeviceFits, OpFits, ImageFits, ThreadFits, ClientFits}
+use Rattle.lw_model.specs.ReportText.{line, count_of, image_line, op_words, op_line, client_lines, hop_line, what_words, ran_line, answer_words, did_line, called_line, replied_words, reply_line, mark_word, result_words, seen_line, role_word, thread_line, thread_lines, device_line, clock_lines, row_line, order_line, round_line, round_lines, text_of_lines}
+use Rattle.lw_model.specs.Ranges.{Fits32, Fits64, WhatFits, TagFits, HopFits, AnswerFits, DidFits, CalledFits, RepliedFits, ReplyFits, MarkFits, SeenByFits, SeenFits, DeviceFits, RowFits, OrderFits, RoundFits, SpanFits, OpFits, ImageFits, ThreadFits, ClientFits}
 use Rattle.lw_report.specs.declared.contents.Contents.{Contents}
 use Rattle.lw_report_lines.specs.LineParts.{is_digit, ends_word}
 use Rattle.lw_base.specs.TextLines.{is_feed, put_on, pieces}
@@ -40,6 +45,7 @@ use Rattle.lw_model.proofs.JoinedWords.{join-cons}
 use Rattle.lw_report_lines.proofs.PartTexts.{numerals}
 use Rattle.lw_report_lines.proofs.PartsBack.{are_all}
 use Rattle.lw_report_lines.proofs.ScriptBack.{hex_words, name_words}
+use Rattle.lw_report_lines.proofs.Moves.{scheduler_line}
 use Rattle.lw_report.proofs.ReportTexts.{fed}
 use Rattle.lw_report.proofs.WholeTexts.{images_lines, clients_lines, threads_lines, devices_lines, last_lines, first_lines, lines_from}
 
@@ -246,24 +252,57 @@ clients_free (c ∷ cs) fit named =
     (line_free (codes "client") (c.name ∷ decimal c.depth ∷ count_of c.ops ∷ []) (known (codes "client") refl) (name_free c.name k.0, (free32 c.depth fit.0.0, (decimal_free (length c.ops) fit.0.2, tt))), mapped op_line OpFits op_free c.ops fit.0.1)
     (clients_free cs fit.1 k.1)
 
+-- ---- the clock's line and the rounds
+
+scheduler_free : (x : Scheduler) → NoFeed (scheduler_line x)
+scheduler_free Static = known (codes "scheduler static") refl
+scheduler_free Dynamic = known (codes "scheduler dynamic") refl
+
+clock_free : (span : Option Span) → SpanFits span → AllByRecursion NoFeed (clock_lines span)
+clock_free None fit = tt
+clock_free (Some x) fit = (line_free (codes "clock") (decimal x.first ∷ decimal x.last ∷ []) (known (codes "clock") refl) (decimal_free x.first fit.0, (decimal_free x.last fit.1, tt)), tt)
+
+row_free : (x : Row) → RowFits x → NoFeed (row_line x)
+row_free x fit =
+    line_free (codes "row") (decimal x.thread ∷ decimal x.reactor ∷ decimal x.busy ∷ decimal x.idle ∷ []) (known (codes "row") refl)
+    (free32 x.thread fit.0, (free32 x.reactor fit.1, (decimal_free x.busy fit.2, (decimal_free x.idle fit.3, tt))))
+
+order_free : (x : Order) → OrderFits x → NoFeed (order_line x)
+order_free x fit = line_free (codes "order") (decimal x.thread ∷ decimal x.to ∷ []) (known (codes "order") refl) (free32 x.thread fit.0, (free32 x.to fit.1, tt))
+
+round_free : (x : Round) → RoundFits x → AllByRecursion NoFeed (round_lines x)
+round_free x fit =
+    let first = line_free (codes "round") (decimal x.number ∷ decimal x.time ∷ []) (known (codes "round") refl) (free32 x.number fit.0, (decimal_free x.time fit.1, tt)) in
+    all-append NoFeed (round_line x ∷ map row_line x.rows) (map order_line x.orders) (first, mapped row_line RowFits row_free x.rows fit.2) (mapped order_line OrderFits order_free x.orders fit.3)
+
+rounds_free : (xs : List Round) → AllByRecursion RoundFits xs → AllByRecursion NoFeed (flat_map round_lines xs)
+rounds_free [] fit = tt
+rounds_free (x ∷ xs) fit = all-append NoFeed (round_lines x) (flat_map round_lines xs) (round_free x fit.0) (rounds_free xs fit.1)
+
+-- ---- the whole
+
 pub lines_free : (c : Contents) → InRange c → Fits64 c.reactors → Fits64 c.period → list_all (λ (i : ImageOf). is_name i.name) c.script.images ≡ true → list_all (λ (x : ClientOf). is_name x.name) c.script.clients ≡ true
-    → Fits64 (length c.threads) → Fits64 (length c.devices) → AllByRecursion NoFeed (lines_from Static None [] c)
+    → Fits64 (length c.threads) → Fits64 (length c.devices) → AllByRecursion NoFeed (lines_from c)
 lines_free c range reactors period images clients threads devices =
-    let head = first_lines Static c in
+    let head = first_lines c in
     let script = c.script in
     let i = images_lines script in
     let k = clients_lines script in
     let t = threads_lines c in
     let d = devices_lines c in
-    let first : AllByRecursion NoFeed head = (known (codes "lightrun report 1") refl, (line_free (codes "scheduler") (codes "static" ∷ []) (known (codes "scheduler") refl) (known (codes "static") refl, tt), (line_free (codes "reactors") (decimal c.reactors ∷ []) (known (codes "reactors") refl) (decimal_free c.reactors reactors, tt), (line_free (codes "period") (decimal c.period ∷ []) (known (codes "period") refl) (decimal_free c.period period, tt), (line_free (codes "pool") (decimal script.small ∷ decimal script.large ∷ []) (known (codes "pool") refl) (free32 script.small range.script.small, (free32 script.large range.script.large, tt)), tt))))) in
+    let m = clock_lines c.span in
+    let n = flat_map round_lines c.rounds in
+    let first : AllByRecursion NoFeed head = (known (codes "lightrun report 1") refl, (scheduler_free c.scheduler, (line_free (codes "reactors") (decimal c.reactors ∷ []) (known (codes "reactors") refl) (decimal_free c.reactors reactors, tt), (line_free (codes "period") (decimal c.period ∷ []) (known (codes "period") refl) (decimal_free c.period period, tt), (line_free (codes "pool") (decimal script.small ∷ decimal script.large ∷ []) (known (codes "pool") refl) (free32 script.small range.script.small, (free32 script.large range.script.large, tt)), tt))))) in
     let second : AllByRecursion NoFeed i = (line_free (codes "images") (count_of script.images ∷ []) (known (codes "images") refl) (decimal_free (length script.images) (omega (arith, range.script.count)), tt), mapped image_line (λ x. ImageFits x × (is_name x.name ≡ true)) image_free script.images (with_test ImageFits (λ (x : ImageOf). is_name x.name) script.images range.script.images images)) in
     let third : AllByRecursion NoFeed k = (line_free (codes "clients") (count_of script.clients ∷ []) (known (codes "clients") refl) (decimal_free (length script.clients) (omega (arith, range.script.count)), tt), clients_free script.clients range.script.clients clients) in
     let last : AllByRecursion NoFeed (last_lines c) = (line_free (codes "home") (decimal c.home.small ∷ decimal c.home.large ∷ []) (known (codes "home") refl) (free32 c.home.small range.small, (free32 c.home.large range.large, tt)), (known (codes "end") refl, tt)) in
-    all-append NoFeed (head ++ i ++ k ++ t ++ d ++ [] ++ []) (last_lines c)
-    (all-append NoFeed (head ++ i ++ k ++ t ++ d ++ []) []
-    (all-append NoFeed (head ++ i ++ k ++ t ++ d) []
+    all-append NoFeed (head ++ i ++ k ++ t ++ d ++ m ++ n) (last_lines c)
+    (all-append NoFeed (head ++ i ++ k ++ t ++ d ++ m) n
+    (all-append NoFeed (head ++ i ++ k ++ t ++ d) m
     (all-append NoFeed (head ++ i ++ k ++ t) d
     (all-append NoFeed (head ++ i ++ k) t
     (all-append NoFeed (head ++ i) k (all-append NoFeed head i first second) third)
     (threads_free 0 c.threads range.threads (omega (arith, threads))))
-    (devices_free 0 c.devices range.devices (omega (arith, devices)))) tt) tt) last
+    (devices_free 0 c.devices range.devices (omega (arith, devices))))
+    (clock_free c.span range.span))
+    (rounds_free c.rounds range.rounds)) last

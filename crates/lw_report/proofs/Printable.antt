@@ -7,7 +7,6 @@ use Rattle.lw_base.specs.declared.message.What.{What}
 use Rattle.lw_base.specs.declared.message.What.TheVariants as what
 use Rattle.lw_model.specs.declared.script.Script.{Script}
 use Rattle.lw_model.specs.declared.record.ThreadRecord.{ThreadRecord}
-use Rattle.lw_base.specs.declared.moves.Scheduler.TheVariants.{Static}
 use Rattle.lw_model.specs.declared.record.RoleKind.{RoleKind}
 use Rattle.lw_model.specs.declared.record.RoleKind.TheVariants.{App, Client, Owner}
 use Rattle.lw_model.specs.declared.record.Called.{Called}
@@ -18,21 +17,25 @@ use Rattle.lw_model.specs.declared.record.Seen.{Seen}
 use Rattle.lw_model.specs.declared.record.SeenBy.{SeenBy}
 use Rattle.lw_model.specs.declared.record.SeenBy.TheVariants as by
 use Rattle.lw_model.specs.ScriptRules.{rule_broken, is_within}
-use Rattle.lw_model.specs.Printable.{has_a_line, has_bytes, has_results, has_role, may_reply, is_printable_thread, is_printable}
+use Rattle.lw_model.specs.Printable.{has_a_line, has_bytes, has_results, has_role, has_rounds, may_reply, is_printable_thread, is_printable}
 use Rattle.lw_report_lines.specs.LineParts.{after, spaced}
 use Rattle.lw_report_lines.specs.LineKinds.{last32, last64, ended, visit_in, cast_in, what_in, ran_in, called_in, bytes_in, last_digits, decoded, replied_in, reply_in, results, mark, is_space, hop_in, did_in, image_in, thread_in, device_in, results_in, seen_in}
 use Rattle.lw_report.specs.declared.contents.Contents.{Contents}
-use Rattle.lw_report_lines.specs.declared.single.FixedLine.TheVariants.{Title, StaticScheduler, End}
+use Rattle.lw_report.specs.declared.contents.Head.{Head}
+use Rattle.lw_report_lines.specs.declared.single.FixedLine.TheVariants.{Title, End}
 use Rattle.lw_report_lines.specs.declared.single.NumberLine.TheVariants.{Period, Images, Clients}
 use Rattle.lw_report_lines.specs.declared.single.PairLine.TheVariants.{Pool, Left}
 use Rattle.lw_report_lines.specs.Once.{fixed_in, number_of_in, pair_of_in, reactors_in}
+use Rattle.lw_report_lines.specs.MoveLines.{scheduler_in}
 use Rattle.lw_base.specs.TextLines.{is_nil}
 use Rattle.lw_base.proofs.Lists.{some_same}
 use Rattle.lw_base.specs.Words.{greatest_u32, greatest_u64}
 use Rattle.lw_report.specs.Machine.{State, one, many}
-use Rattle.lw_report.specs.Report.{list_at, client_at, script_at, role_at, thread_lines, thread_at, threads_at, devices_at, report_at}
+use Rattle.lw_report.specs.Report.{list_at, client_at, script_at, role_at, thread_lines, thread_at, threads_at, devices_at, head_at, report_at}
+use Rattle.lw_report.specs.Rounds.{moves_at}
 use Rattle.lw_report_lines.proofs.Said.{some_parts, map_parts, if_some, chosen}
 use Rattle.lw_report.proofs.Said.{read_parts, if_ok, one_said, many_all, numbered_all}
+use Rattle.lw_report.proofs.RoundTexts.{moves_printable}
 
 -- ---- messages
 
@@ -226,41 +229,60 @@ script_accepted s t script e =
     let d = if_ok (is_none (rule_broken whole)) (whole, c.0.1) (script, t) c.0.1.line c.2 in
     subst (λ q. is_none (rule_broken q) ≡ true) (ap (λ (p : Script × State). p.0) d.1) d.0
 
--- the parts of a record's rule, for what a report says
-pub contents_fit : (s t : State) (c : Contents) → report_at s ≡ Ok (c, t) → is_printable c.script Static c.reactors c.period c.threads c.devices None [] ≡ true
-unfolding threads_at devices_at
-contents_fit s t c e =
-    let a = read_parts (one (fixed_in Title) s) _ (c, t) e in
-    let b = read_parts (one (fixed_in StaticScheduler) a.0.1) _ (c, t) a.2 in
-    let r = read_parts (one reactors_in b.0.1) _ (c, t) b.2 in
-    let p = read_parts (one (number_of_in Period) r.0.1) _ (c, t) r.2 in
-    let k = read_parts (script_at p.0.1) _ (c, t) p.2 in
-    let th = read_parts (threads_at k.0.0 k.0.1) _ (c, t) k.2 in
-    let de = read_parts (devices_at k.0.0 th.0.1) _ (c, t) th.2 in
-    let ho = read_parts (one (pair_of_in Left) de.0.1) _ (c, t) de.2 in
-    let en = read_parts (one (fixed_in End) ho.0.1) _ (c, t) ho.2 in
-    let whole : Contents = record { script = k.0.0; reactors = r.0.0; period = p.0.0; threads = th.0.0; devices = de.0.0; home = ho.0.0 } in
-    let last = if_ok (is_nil en.0.1.lines) (whole, en.0.1) (c, t) en.0.1.line en.2 in
+-- the numbers of the front lines
+head_within : (s t : State) (h : Head) → head_at s ≡ Ok (h, t) → (is_within 1 16 h.reactors ≡ true) × (is_within 1 1000000000000 h.period ≡ true)
+unfolding head_at
+head_within s t h e =
+    let a = read_parts (one (fixed_in Title) s) _ (h, t) e in
+    let b = read_parts (one scheduler_in a.0.1) _ (h, t) a.2 in
+    let r = read_parts (one reactors_in b.0.1) _ (h, t) b.2 in
+    let p = read_parts (one (number_of_in Period) r.0.1) _ (h, t) r.2 in
     let reactors = one_said reactors_in b.0.1 r.0.1 r.0.0 r.1 in
     let period = one_said (number_of_in Period) r.0.1 p.0.1 p.0.0 p.1 in
+    subst (λ (x : Head). (is_within 1 16 x.reactors ≡ true) × (is_within 1 1000000000000 x.period ≡ true)) (ap (λ (q : Result (Head × State) ℕ). elim q [ Ok x ↦ x.0 | Err n ↦ h ]) p.2)
+    (reactors_within reactors.0 r.0.0 reactors.1, period_within period.0 p.0.0 period.1)
+
+-- the parts of a record's rule, for what a report says
+pub contents_fit : (s t : State) (c : Contents) → report_at s ≡ Ok (c, t) → is_printable c.script c.scheduler c.reactors c.period c.threads c.devices c.span c.rounds ≡ true
+unfolding threads_at devices_at
+contents_fit s t c e =
+    let h = read_parts (head_at s) _ (c, t) e in
+    let k = read_parts (script_at h.0.1) _ (c, t) h.2 in
+    let th = read_parts (threads_at k.0.0 k.0.1) _ (c, t) k.2 in
+    let de = read_parts (devices_at k.0.0 th.0.1) _ (c, t) th.2 in
+    let mo = read_parts (moves_at h.0.0.scheduler de.0.1) _ (c, t) de.2 in
+    let ho = read_parts (one (pair_of_in Left) mo.0.1) _ (c, t) mo.2 in
+    let en = read_parts (one (fixed_in End) ho.0.1) _ (c, t) ho.2 in
+    let whole : Contents = record {
+      script = k.0.0;
+      scheduler = h.0.0.scheduler;
+      reactors = h.0.0.reactors;
+      period = h.0.0.period;
+      threads = th.0.0;
+      devices = de.0.0;
+      span = mo.0.0.span;
+      rounds = mo.0.0.rounds;
+      home = ho.0.0;
+    } in
+    let last = if_ok (is_nil en.0.1.lines) (whole, en.0.1) (c, t) en.0.1.line en.2 in
+    let head = head_within s h.0.1 h.0.0 h.1 in
     let threads = numbered_all (thread_at (length k.0.0.clients) (length k.0.0.images)) (is_printable_thread k.0.0) (thread_said k.0.0) (1 + length k.0.0.clients + length k.0.0.images) 0 k.0.1 th.0.1 th.0.0 th.1 in
     let devices = numbered_all (λ d. one (device_in d)) (λ n x. true) (λ n s t x e. refl) (length k.0.0.images) 0 th.0.1 de.0.1 de.0.0 de.1 in
     let q1 = is_none (rule_broken k.0.0) in
-    let q2 = is_within 1 16 r.0.0 in
-    let q3 = is_within 1 1000000000000 p.0.0 in
+    let q2 = is_within 1 16 h.0.0.reactors in
+    let q3 = is_within 1 1000000000000 h.0.0.period in
     let q4 = length th.0.0 == 1 + length k.0.0.clients + length k.0.0.images in
     let q5 = list_all (λ (q : ℕ × ThreadRecord). is_printable_thread k.0.0 q.0 q.1) (enumerate_from 0 th.0.0) in
     let q6 = length de.0.0 == length k.0.0.images in
-    let fit : is_printable k.0.0 Static r.0.0 p.0.0 th.0.0 de.0.0 None [] ≡ true =
-    and_from (q1 && q2 && q3 && q4 && q5 && q6) true
+    let q7 = has_rounds h.0.0.scheduler mo.0.0.span mo.0.0.rounds in
+    let fit : is_printable k.0.0 h.0.0.scheduler h.0.0.reactors h.0.0.period th.0.0 de.0.0 mo.0.0.span mo.0.0.rounds ≡ true =
+    and_from (q1 && q2 && q3 && q4 && q5 && q6) q7
     (and_from (q1 && q2 && q3 && q4 && q5) q6
     (and_from (q1 && q2 && q3 && q4) q5
     (and_from (q1 && q2 && q3) q4
-    (and_from (q1 && q2) q3
-    (and_from q1 q2 (script_accepted p.0.1 k.0.1 k.0.0 k.1) (reactors_within reactors.0 r.0.0 reactors.1))
-    (period_within period.0 p.0.0 period.1))
+    (and_from (q1 && q2) q3 (and_from q1 q2 (script_accepted h.0.1 k.0.1 k.0.0 k.1) head.0) head.1)
     (eq-eqb (length th.0.0) (1 + length k.0.0.clients + length k.0.0.images) threads.0))
     threads.1)
     (eq-eqb (length de.0.0) (length k.0.0.images) devices.0))
-    refl in
-    subst (λ (x : Contents). is_printable x.script Static x.reactors x.period x.threads x.devices None [] ≡ true) (ap (λ (q : Contents × State). q.0) last.1) fit
+    (moves_printable h.0.0.scheduler de.0.1 mo.0.1 mo.0.0 mo.1) in
+    subst (λ (x : Contents). is_printable x.script x.scheduler x.reactors x.period x.threads x.devices x.span x.rounds ≡ true) (ap (λ (q : Contents × State). q.0) last.1) fit

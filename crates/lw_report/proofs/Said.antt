@@ -1,6 +1,6 @@
 -- What is known of what was read: its parts.
 use Rattle.std.proofs.Common.{◌≡◌, ℕ, zero, suc, ◌+◌, Bool, true, false, if◌then◌else◌, List, [], ◌∷◌, length, Option, Some, None, Result, Ok, Err, refl, sym, ap, ◌∙◌}
-use Rattle.std.specs.List.{list_all, enumerate_from}
+use Rattle.std.specs.List.{list_all, enumerate_from, AllByRecursion}
 use Rattle.std.proofs.lemmas.Bool.{and_from}
 use Rattle.lw_report.specs.Machine.{State, ◌>>=◌, one, many_from, numbered}
 
@@ -53,3 +53,17 @@ numbered_all {X = X} f p each (suc k) n s t xs e =
       ap (λ ys. list_all (λ (q : ℕ × X). p q.0 q.1) (enumerate_from n ys)) (sym all)
           ∙ and_from (p n a.0.0) (list_all (λ q. p q.0 q.1) (enumerate_from (n + 1) b.0.0)) (each n s a.0.1 a.0.0 a.1) rest.1,
     )
+
+-- what holds of each line of a kind holds of all that are read
+pub many_fit : {X : Type 0} (f : List ℕ → Option X) (P : X → Type 0) → ((l : List ℕ) (x : X) → f l ≡ Some x → P x) → (n : ℕ) (ls : List (List ℕ)) → AllByRecursion P (many_from f n ls).0
+many_fit f P each n [] = tt
+many_fit {X = X} f P each n (l ∷ ls) = at (f l) refl (many_fit f P each (n + 1) ls)
+  where
+    at : (o : Option X) → f l ≡ o → AllByRecursion P (many_from f (n + 1) ls).0
+        → AllByRecursion P (elim o as (λ _. List X × State) [ Some x ↦ (x ∷ (many_from f (n + 1) ls).0, (many_from f (n + 1) ls).1) | None ↦ ([], record { line = n; lines = l ∷ ls }) ]).0
+    at None e rest = tt
+    at (Some x) e rest = (each l x e, rest)
+
+-- the parts of one line each
+pub one_each : {X : Type 0} (f : List ℕ → Option X) (P : X → Type 0) → ((l : List ℕ) (x : X) → f l ≡ Some x → P x) → (s t : State) (x : X) → one f s ≡ Ok (x, t) → P x
+one_each f P each s t x e = let a = one_said f s t x e in each a.0 x a.1

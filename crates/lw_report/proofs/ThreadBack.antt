@@ -7,6 +7,7 @@ use Rattle.lw_model.specs.declared.script.Script.{Script}
 use Rattle.lw_model.specs.declared.record.ThreadRecord.{ThreadRecord}
 use Rattle.lw_model.specs.declared.record.Called.{Called}
 use Rattle.lw_base.specs.declared.ends.DeviceEnd.{DeviceEnd}
+use Rattle.lw_model.specs.declared.record.Span.{Span}
 use Rattle.lw_model.specs.Printable.{has_a_line, has_role, may_reply, is_printable_thread}
 use Rattle.lw_model.specs.ReportText.{line, hop_line, ran_line, did_line, called_line, reply_line, seen_line, thread_line, thread_lines as lines_of_thread, device_line}
 use Rattle.lw_model.specs.Ranges.{Fits64, HopFits, TagFits, DidFits, CalledFits, ThreadFits}
@@ -16,6 +17,7 @@ use Rattle.lw_report.specs.Report.{thread_lines, thread_at}
 use Rattle.lw_report.proofs.Reading.{state}
 use Rattle.lw_report.proofs.ReportTexts.{fed}
 use Rattle.lw_report.proofs.Chains.{thread_of_lines}
+use Rattle.lw_report_lines.proofs.Moves.{clock_line}
 use Rattle.lw_report_lines.proofs.LinesBack.{hop_back, ran_back, did_back, called_back, thread_back}
 use Rattle.lw_report.proofs.MachineBack.{fed_both, one_back, Stops, stops_over, many_back, Back, NextThread, role_is, both_fit, own_read}
 
@@ -111,7 +113,7 @@ thread_read script n x s R fit printable small next e =
           ∙ ap (λ (q : ThreadRecord × State). Ok q) (sym all),
     )
 
--- what stands behind a thread: another thread, a device, or the pool's line
+-- what stands behind a thread: another thread, a device, the clock's line or the pool's
 pub next_thread : (images n : ℕ) (x : ThreadRecord) (R : List (List ℕ)) → NextThread images (fed (lines_of_thread n x) ++ R)
 next_thread images n x R = record { hop = by hop_in refl; ran = by ran_in refl; did = by did_in refl; called = by (called_in images) refl; reply = by reply_in refl; seen = by seen_in refl }
   where
@@ -123,3 +125,6 @@ next_device images n x R = record { hop = refl; ran = refl; did = refl; called =
 
 pub next_home : (images small large : ℕ) (R : List (List ℕ)) → NextThread images ((line (codes "home" ∷ decimal small ∷ decimal large ∷ []) ++ 10 ∷ []) ∷ R)
 next_home images small large R = record { hop = refl; ran = refl; did = refl; called = refl; reply = refl; seen = refl }
+
+pub next_clock : (images : ℕ) (span : Span) (R : List (List ℕ)) → NextThread images ((clock_line span ++ 10 ∷ []) ∷ R)
+next_clock images span R = record { hop = refl; ran = refl; did = refl; called = refl; reply = refl; seen = refl }

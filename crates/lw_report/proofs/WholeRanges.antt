@@ -1,5 +1,5 @@
 -- What was read is in range: each number fits its type, and so do the counts.
-use Rattle.std.proofs.Common.{◌≡◌, ℕ, zero, suc, ◌+◌, true, List, [], ◌∷◌, codes, length, Option, Some, None, is_none, Result, Ok, Err, refl, sym, ap, subst}
+use Rattle.std.proofs.Common.{◌≡◌, ℕ, zero, suc, ◌+◌, true, List, ◌∷◌, codes, length, is_none, Result, Ok, Err, refl, sym, ap, subst}
 use Rattle.std.specs.List.{AllByRecursion}
 use Rattle.lw_model.specs.declared.script.Script.{Script}
 use Rattle.lw_model.specs.declared.script.ClientOf.{ClientOf}
@@ -11,29 +11,21 @@ use Rattle.lw_model.specs.ScriptRules.{rule_broken}
 use Rattle.lw_model.specs.Ranges.{Fits32, Fits64, ReplyFits, SeenFits, OpFits, ImageFits, DeviceFits, HopFits, TagFits, DidFits, CalledFits, ClientFits, ScriptFits, ThreadFits, RecordFits}
 use Rattle.lw_model.proofs.Rules.{counts_fit}
 use Rattle.lw_report.specs.declared.contents.Contents.{Contents}
-use Rattle.lw_report_lines.specs.declared.single.FixedLine.TheVariants.{Title, StaticScheduler, End}
-use Rattle.lw_report_lines.specs.declared.single.NumberLine.TheVariants.{Period, Images, Clients}
+use Rattle.lw_report_lines.specs.declared.single.FixedLine.TheVariants.{End}
+use Rattle.lw_report_lines.specs.declared.single.NumberLine.TheVariants.{Images, Clients}
 use Rattle.lw_report_lines.specs.declared.single.PairLine.TheVariants.{Pool, Left}
 use Rattle.lw_report_lines.specs.LineKinds.{hop_in, ran_in, did_in, called_in, reply_in, seen_in, thread_in, device_in, image_in, client_in, op_in}
-use Rattle.lw_report_lines.specs.Once.{fixed_in, number_of_in, pair_of_in, reactors_in}
+use Rattle.lw_report_lines.specs.Once.{fixed_in, number_of_in, pair_of_in}
 use Rattle.lw_base.specs.TextLines.{pieces, is_nil}
 use Rattle.lw_base.proofs.Lists.{none_is}
-use Rattle.lw_report.specs.Machine.{State, ◌>>=◌, one, many, many_from, numbered}
-use Rattle.lw_report.specs.Report.{list_at, client_at, script_at, client_lines, role_at, thread_lines, thread_at, threads_at, devices_at, report_at, reading}
+use Rattle.lw_report.specs.Machine.{State, ◌>>=◌, one, many, numbered}
+use Rattle.lw_report.specs.Report.{list_at, client_at, script_at, client_lines, role_at, thread_lines, thread_at, threads_at, devices_at, head_at, report_at, reading}
+use Rattle.lw_report.specs.Rounds.{moves_at}
 use Rattle.lw_report.specs.Parsed.{contents_of}
 use Rattle.lw_report.specs.Ranges.{InRange}
-use Rattle.lw_report.proofs.Said.{read_parts, if_ok, one_said, numbered_all}
+use Rattle.lw_report.proofs.Said.{read_parts, if_ok, many_fit, one_each, numbered_all}
+use Rattle.lw_report.proofs.RoundTexts.{moves_fit}
 use Rattle.lw_report_lines.proofs.LineRanges.{hop_fits, ran_fits, did_fits, called_fits, reply_fits, seen_fits, home_fits, device_fits, pair_fits, image_fits, client_fits, op_fits}
-
--- what holds of each line of a kind holds of all that are read
-many_fit : {X : Type 0} (f : List ℕ → Option X) (P : X → Type 0) → ((l : List ℕ) (x : X) → f l ≡ Some x → P x) → (n : ℕ) (ls : List (List ℕ)) → AllByRecursion P (many_from f n ls).0
-many_fit f P each n [] = tt
-many_fit {X = X} f P each n (l ∷ ls) = at (f l) refl (many_fit f P each (n + 1) ls)
-  where
-    at : (o : Option X) → f l ≡ o → AllByRecursion P (many_from f (n + 1) ls).0
-        → AllByRecursion P (elim o as (λ _. List X × State) [ Some x ↦ (x ∷ (many_from f (n + 1) ls).0, (many_from f (n + 1) ls).1) | None ↦ ([], record { line = n; lines = l ∷ ls }) ]).0
-    at None e rest = tt
-    at (Some x) e rest = (each l x e, rest)
 
 numbered_fit : {X : Type 0} (f : ℕ → State → Result (X × State) ℕ) (P : X → Type 0) → ((n : ℕ) (s t : State) (x : X) → f n s ≡ Ok (x, t) → P x)
     → (k n : ℕ) (s t : State) (xs : List X) → numbered k n f s ≡ Ok (xs, t) → AllByRecursion P xs
@@ -48,10 +40,6 @@ numbered_fit {X = X} f P each (suc k) n s t xs e =
 -- as many parts as were asked for
 numbered_length : {X : Type 0} (f : ℕ → State → Result (X × State) ℕ) (k n : ℕ) (s t : State) (xs : List X) → numbered k n f s ≡ Ok (xs, t) → length xs ≡ k
 numbered_length f k n s t xs e = (numbered_all f (λ n x. true) (λ n s t x h. refl) k n s t xs e).0
-
--- the parts of one line each
-one_each : {X : Type 0} (f : List ℕ → Option X) (P : X → Type 0) → ((l : List ℕ) (x : X) → f l ≡ Some x → P x) → (s t : State) (x : X) → one f s ≡ Ok (x, t) → P x
-one_each f P each s t x e = let a = one_said f s t x e in each a.0 x a.1
 
 -- ---- the script
 
@@ -116,24 +104,35 @@ thread_said clients images n s t x e =
 report_said : (s t : State) (c : Contents) → report_at s ≡ Ok (c, t) → InRange c
 unfolding threads_at devices_at
 report_said s t c e =
-    let a = read_parts (one (fixed_in Title) s) _ (c, t) e in
-    let b = read_parts (one (fixed_in StaticScheduler) a.0.1) _ (c, t) a.2 in
-    let r = read_parts (one reactors_in b.0.1) _ (c, t) b.2 in
-    let p = read_parts (one (number_of_in Period) r.0.1) _ (c, t) r.2 in
-    let k = read_parts (script_at p.0.1) _ (c, t) p.2 in
+    let h = read_parts (head_at s) _ (c, t) e in
+    let k = read_parts (script_at h.0.1) _ (c, t) h.2 in
     let th = read_parts (threads_at k.0.0 k.0.1) _ (c, t) k.2 in
     let de = read_parts (devices_at k.0.0 th.0.1) _ (c, t) th.2 in
-    let ho = read_parts (one (pair_of_in Left) de.0.1) _ (c, t) de.2 in
+    let mo = read_parts (moves_at h.0.0.scheduler de.0.1) _ (c, t) de.2 in
+    let ho = read_parts (one (pair_of_in Left) mo.0.1) _ (c, t) mo.2 in
     let en = read_parts (one (fixed_in End) ho.0.1) _ (c, t) ho.2 in
-    let whole : Contents = record { script = k.0.0; reactors = r.0.0; period = p.0.0; threads = th.0.0; devices = de.0.0; home = ho.0.0 } in
+    let whole : Contents = record {
+      script = k.0.0;
+      scheduler = h.0.0.scheduler;
+      reactors = h.0.0.reactors;
+      period = h.0.0.period;
+      threads = th.0.0;
+      devices = de.0.0;
+      span = mo.0.0.span;
+      rounds = mo.0.0.rounds;
+      home = ho.0.0;
+    } in
     let last = if_ok (is_nil en.0.1.lines) (whole, en.0.1) (c, t) en.0.1.line en.2 in
     let clients = length k.0.0.clients in
     let images = length k.0.0.images in
-    let home = one_each (pair_of_in Left) (λ h. Fits32 h.small × Fits32 h.large) (pair_fits (codes "home")) de.0.1 ho.0.1 ho.0.0 ho.1 in
+    let home = one_each (pair_of_in Left) (λ h. Fits32 h.small × Fits32 h.large) (pair_fits (codes "home")) mo.0.1 ho.0.1 ho.0.0 ho.1 in
+    let moves = moves_fit h.0.0.scheduler de.0.1 mo.0.1 mo.0.0 mo.1 in
     subst (λ (q : Contents × State). InRange q.0) last.1 (record {
-      script = script_said p.0.1 k.0.1 k.0.0 k.1;
+      script = script_said h.0.1 k.0.1 k.0.0 k.1;
       threads = numbered_fit (thread_at clients images) ThreadFits (thread_said clients images) (1 + clients + images) 0 k.0.1 th.0.1 th.0.0 th.1;
       devices = numbered_fit (λ d. one (device_in d)) DeviceFits (λ n s t x h. one_each (device_in n) DeviceFits (device_fits n) s t x h) images 0 th.0.1 de.0.1 de.0.0 de.1;
+      span = moves.0;
+      rounds = moves.1;
       small = home.0;
       large = home.1;
     })
@@ -147,4 +146,4 @@ read_in_range bytes c e =
 
 -- so is what a record says whose numbers fit
 pub record_in_range : (r : Record) → RecordFits r → InRange (contents_of r)
-record_in_range r fits = record { script = fits.script; threads = fits.threads; devices = fits.devices; small = fits.home.0; large = fits.home.1 }
+record_in_range r fits = record { script = fits.script; threads = fits.threads; devices = fits.devices; span = fits.span; rounds = fits.rounds; small = fits.home.0; large = fits.home.1 }

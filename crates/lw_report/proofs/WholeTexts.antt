@@ -1,39 +1,40 @@
 -- The text of a whole report that was read.
-use Rattle.std.proofs.Common.{◌≡◌, ℕ, ◌+◌, Bool, true, false, ◌&&◌, if◌then◌else◌, List, [], ◌∷◌, ◌++◌, map, length, flat_map, codes, decimal, append_assoc, append-nil, Option, None, Result, Ok, Err, is_none, is_some, refl, sym, ap, subst, ◌∙◌}
+use Rattle.std.proofs.Common.{◌≡◌, ℕ, ◌+◌, Bool, true, false, ◌&&◌, if◌then◌else◌, List, [], ◌∷◌, ◌++◌, map, length, flat_map, codes, decimal, append_assoc, append-nil, Result, Ok, Err, is_none, is_some, refl, sym, ap, subst, ◌∙◌}
 use Rattle.std.specs.List.{list_all, enumerate_from}
 use Rattle.std.proofs.lemmas.Bool.{and_parts, and_from}
 use Rattle.lw_model.specs.declared.script.Script.{Script}
 use Rattle.lw_model.specs.declared.script.ImageOf.{ImageOf}
 use Rattle.lw_model.specs.declared.script.ClientOf.{ClientOf}
 use Rattle.lw_model.specs.declared.record.Record.{Record}
-use Rattle.lw_base.specs.declared.moves.Scheduler.{Scheduler}
-use Rattle.lw_base.specs.declared.moves.Scheduler.TheVariants.{Static}
 use Rattle.lw_model.specs.declared.record.ThreadRecord.{ThreadRecord}
 use Rattle.lw_base.specs.declared.ends.DeviceEnd.{DeviceEnd}
-use Rattle.lw_model.specs.declared.record.Span.{Span}
-use Rattle.lw_base.specs.declared.moves.Round.{Round}
 use Rattle.lw_model.specs.ScriptRules.{is_name, is_pattern, rule_broken}
-use Rattle.lw_model.specs.ReportText.{line, count_of, scheduler_word, image_line, client_lines, thread_lines, device_line, clock_lines, round_lines, text_of_lines, lines_of, text_of}
+use Rattle.lw_model.specs.ReportText.{line, count_of, image_line, client_lines, thread_lines, device_line, clock_lines, round_lines, text_of_lines, lines_of, text_of}
 use Rattle.lw_report.specs.declared.contents.Contents.{Contents}
+use Rattle.lw_report.specs.declared.contents.Head.{Head}
 use Rattle.lw_report_lines.specs.declared.single.FixedLine.{FixedLine}
-use Rattle.lw_report_lines.specs.declared.single.FixedLine.TheVariants.{Title, StaticScheduler, End}
+use Rattle.lw_report_lines.specs.declared.single.FixedLine.TheVariants.{Title, End}
 use Rattle.lw_report_lines.specs.declared.single.NumberLine.{NumberLine}
 use Rattle.lw_report_lines.specs.declared.single.NumberLine.TheVariants.{Period, Images, Clients}
 use Rattle.lw_report_lines.specs.declared.single.PairLine.TheVariants.{Pool, Left}
 use Rattle.lw_report_lines.specs.LineKinds.{text_in, image_in, device_in}
 use Rattle.lw_report_lines.specs.Once.{fixed_text, fixed_in, number_word, number_least, number_most, number_of_in, pair_of_in, reactors_in}
+use Rattle.lw_report_lines.specs.MoveLines.{scheduler_in}
 use Rattle.lw_base.specs.TextLines.{is_feed, put_on, pieces, is_nil}
 use Rattle.lw_base.proofs.Lists.{none_is}
 use Rattle.lw_report.specs.Machine.{State, one, numbered}
-use Rattle.lw_report.specs.Report.{list_at, client_at, script_at, thread_at, threads_at, devices_at, rest_at, report_at, reading}
-use Rattle.lw_report.specs.Parsed.{contents_of, IsStatic}
+use Rattle.lw_report.specs.Report.{list_at, client_at, script_at, thread_at, threads_at, devices_at, head_at, rest_at, report_at, reading}
+use Rattle.lw_report.specs.Rounds.{moves_at}
+use Rattle.lw_report.specs.Parsed.{contents_of}
 use Rattle.lw_report_lines.proofs.Said.{if_some}
 use Rattle.lw_report.proofs.Said.{read_parts, if_ok, numbered_all}
 use Rattle.lw_report_lines.proofs.Names.{named_length}
 use Rattle.lw_report.proofs.Accepted.{images_named, clients_named, patterns_fit}
 use Rattle.lw_report_lines.proofs.LineTexts.{fixed_text as text_is, counted_text, pair_text, device_text}
 use Rattle.lw_report_lines.proofs.ScriptTexts.{image_text}
+use Rattle.lw_report_lines.proofs.Moves.{scheduler_line, scheduler_text}
 use Rattle.lw_report.proofs.ReportTexts.{fed, Took, took_both, one_took, numbered_took, one_by_one, one_by_number, by_item, fits_client, client_took, thread_took}
+use Rattle.lw_report.proofs.RoundTexts.{moves_took}
 
 -- ---- single lines
 
@@ -107,25 +108,37 @@ devices_lines c = map (λ p. device_line p.0 p.1) (enumerate_from 0 c.devices)
 abbrev pub last_lines : Contents → List (List ℕ)
 last_lines c = line (codes "home" ∷ decimal c.home.small ∷ decimal c.home.large ∷ []) ∷ codes "end" ∷ []
 
-abbrev pub first_lines : Scheduler → Contents → List (List ℕ)
-first_lines scheduler c =
+abbrev pub front : Head → List (List ℕ)
+front h =
     (codes "lightrun report 1"
-    ∷ line (codes "scheduler" ∷ scheduler_word scheduler ∷ [])
+    ∷ scheduler_line h.scheduler
+    ∷ line (codes "reactors" ∷ decimal h.reactors ∷ [])
+    ∷ line (codes "period" ∷ decimal h.period ∷ [])
+    ∷ [])
+
+-- what a report says before its script
+abbrev pub head_of : Contents → Head
+head_of c = record { scheduler = c.scheduler; reactors = c.reactors; period = c.period }
+
+abbrev pub first_lines : Contents → List (List ℕ)
+first_lines c =
+    (codes "lightrun report 1"
+    ∷ scheduler_line c.scheduler
     ∷ line (codes "reactors" ∷ decimal c.reactors ∷ [])
     ∷ line (codes "period" ∷ decimal c.period ∷ [])
     ∷ pool_line c.script
     ∷ [])
 
--- the lines of a record with these fields
-abbrev pub lines_from : Scheduler → Option Span → List Round → Contents → List (List ℕ)
-lines_from scheduler span rounds c =
-    first_lines scheduler c ++ images_lines c.script ++ clients_lines c.script ++ threads_lines c ++ devices_lines c ++ clock_lines span ++ flat_map round_lines rounds ++ last_lines c
+abbrev pub moves_lines : Contents → List (List ℕ)
+moves_lines c = clock_lines c.span ++ flat_map round_lines c.rounds
 
-pub lines_are : (r : Record) → IsStatic r → lines_of r ≡ lines_from Static None [] (contents_of r)
-lines_are r is =
-    ap (λ x. lines_from x r.span r.rounds (contents_of r)) is.scheduler
-    ∙ ap (λ x. lines_from Static x r.rounds (contents_of r)) is.span
-    ∙ ap (λ x. lines_from Static None x (contents_of r)) is.rounds
+-- the lines of a record with these fields
+abbrev pub lines_from : Contents → List (List ℕ)
+lines_from c =
+    first_lines c ++ images_lines c.script ++ clients_lines c.script ++ threads_lines c ++ devices_lines c ++ clock_lines c.span ++ flat_map round_lines c.rounds ++ last_lines c
+
+pub lines_are : (r : Record) → lines_of r ≡ lines_from (contents_of r)
+lines_are r = refl
 
 nil_is : {X : Type 0} (xs : List X) → is_nil xs ≡ true → xs ≡ []
 nil_is [] e = refl
@@ -134,11 +147,6 @@ nil_is (x ∷ xs) e = let wrong : false ≡ true = e in cc
 all_true : {X : Type 0} (xs : List X) → list_all (λ (x : X). true) xs ≡ true
 all_true [] = refl
 all_true (x ∷ xs) = all_true xs
-
--- the last two of five parts, with the two that a static run lacks between them
-five_took : (s a b t : State) (xs ys zs : List (List ℕ)) → Took s xs a → Took a ys b → Took b zs t → Took s (xs ++ ys ++ [] ++ [] ++ zs) t
-five_took s a b t xs ys zs p q r =
-    took_both s b t (xs ++ ys ++ [] ++ []) zs (subst (λ ls. Took s ls b) (sym (append-nil (xs ++ ys ++ []) ∙ append-nil (xs ++ ys))) (took_both s a b xs ys p q)) r
 
 threads_took : (script : Script) (s t : State) (xs : List ThreadRecord) → threads_at script s ≡ Ok (xs, t) → Took s (flat_map (λ p. thread_lines p.0 p.1) (enumerate_from 0 xs)) t
 unfolding threads_at
@@ -154,83 +162,94 @@ devices_took script s t xs e =
 
 -- what stands behind the script
 abbrev pub rest_lines : Contents → List (List ℕ)
-rest_lines c = threads_lines c ++ devices_lines c ++ [] ++ [] ++ last_lines c
+rest_lines c = threads_lines c ++ devices_lines c ++ moves_lines c ++ last_lines c
 
-record RestSaid (s t : State) (reactors period : ℕ) (script : Script) (c : Contents) : Type 0 where
+record RestSaid (s t : State) (head : Head) (script : Script) (c : Contents) : Type 0 where
   script_is : c.script ≡ script
-  reactors_is : c.reactors ≡ reactors
-  period_is : c.period ≡ period
+  head_is : head_of c ≡ head
   took : Took s (rest_lines c) t
   none : t.lines ≡ []
 
-rest_said : (reactors period : ℕ) (script : Script) (s t : State) (c : Contents) → rest_at reactors period script s ≡ Ok (c, t) → RestSaid s t reactors period script c
-rest_said reactors period script s t c e =
+rest_said : (head : Head) (script : Script) (s t : State) (c : Contents) → rest_at head script s ≡ Ok (c, t) → RestSaid s t head script c
+rest_said head script s t c e =
     let th = read_parts (threads_at script s) _ (c, t) e in
     let de = read_parts (devices_at script th.0.1) _ (c, t) th.2 in
-    let ho = read_parts (one (pair_of_in Left) de.0.1) _ (c, t) de.2 in
+    let mo = read_parts (moves_at head.scheduler de.0.1) _ (c, t) de.2 in
+    let ho = read_parts (one (pair_of_in Left) mo.0.1) _ (c, t) mo.2 in
     let en = read_parts (one (fixed_in End) ho.0.1) _ (c, t) ho.2 in
-    let w : Contents = record { script = script; reactors = reactors; period = period; threads = th.0.0; devices = de.0.0; home = ho.0.0 } in
+    let w : Contents = record {
+      script = script;
+      scheduler = head.scheduler;
+      reactors = head.reactors;
+      period = head.period;
+      threads = th.0.0;
+      devices = de.0.0;
+      span = mo.0.0.span;
+      rounds = mo.0.0.rounds;
+      home = ho.0.0;
+    } in
     let last = if_ok (is_nil en.0.1.lines) (w, en.0.1) (c, t) en.0.1.line en.2 in
-    let home = one_took (pair_of_in Left) (λ h. line (codes "home" ∷ decimal h.small ∷ decimal h.large ∷ [])) de.0.1 ho.0.1 ho.0.0 (λ l h. pair_text (codes "home") l ho.0.0 h) ho.1 in
-    let end = took_both de.0.1 ho.0.1 en.0.1 (line (codes "home" ∷ decimal ho.0.0.small ∷ decimal ho.0.0.large ∷ []) ∷ []) (codes "end" ∷ []) home (fixed_took End ho.0.1 en.0.1 en.0.0 en.1) in
-    let said : RestSaid s en.0.1 reactors period script w = record {
+    let home = one_took (pair_of_in Left) (λ h. line (codes "home" ∷ decimal h.small ∷ decimal h.large ∷ [])) mo.0.1 ho.0.1 ho.0.0 (λ l h. pair_text (codes "home") l ho.0.0 h) ho.1 in
+    let end = took_both mo.0.1 ho.0.1 en.0.1 (line (codes "home" ∷ decimal ho.0.0.small ∷ decimal ho.0.0.large ∷ []) ∷ []) (codes "end" ∷ []) home (fixed_took End ho.0.1 en.0.1 en.0.0 en.1) in
+    let both = took_both s th.0.1 de.0.1 (threads_lines w) (devices_lines w) (threads_took script s th.0.1 th.0.0 th.1) (devices_took script th.0.1 de.0.1 de.0.0 de.1) in
+    let three = took_both s de.0.1 mo.0.1 (threads_lines w ++ devices_lines w) (moves_lines w) both (moves_took head.scheduler de.0.1 mo.0.1 mo.0.0 mo.1) in
+    let said : RestSaid s en.0.1 head script w = record {
       script_is = refl;
-      reactors_is = refl;
-      period_is = refl;
-      took = five_took s th.0.1 de.0.1 en.0.1 (threads_lines w) (devices_lines w) (last_lines w) (threads_took script s th.0.1 th.0.0 th.1) (devices_took script th.0.1 de.0.1 de.0.0 de.1) end;
+      head_is = refl;
+      took = took_both s mo.0.1 en.0.1 (threads_lines w ++ devices_lines w ++ moves_lines w) (last_lines w) three end;
       none = nil_is en.0.1.lines last.0;
     } in
-    subst (λ (q : Contents × State). RestSaid s q.1 reactors period script q.0) last.1 said
+    subst (λ (q : Contents × State). RestSaid s q.1 head script q.0) last.1 said
 
--- the four lines before the script
-unfoldable pub front : ℕ → ℕ → List (List ℕ)
-front reactors period = codes "lightrun report 1" ∷ codes "scheduler static" ∷ line (codes "reactors" ∷ decimal reactors ∷ []) ∷ line (codes "period" ∷ decimal period ∷ []) ∷ []
-
-front_took : (s a b r p : State) (x y : FixedLine) (reactors period : ℕ) → one (fixed_in Title) s ≡ Ok (x, a) → one (fixed_in StaticScheduler) a ≡ Ok (y, b) → one reactors_in b ≡ Ok (reactors, r) → one (number_of_in Period) r ≡ Ok (period, p)
-    → Took s (front reactors period) p
-unfolding front
-front_took s a b r p x y reactors period e1 e2 e3 e4 =
-    let third = line (codes "reactors" ∷ decimal reactors ∷ []) in
-    let h1 = took_both s a b (codes "lightrun report 1" ∷ []) (codes "scheduler static" ∷ []) (fixed_took Title s a x e1) (fixed_took StaticScheduler a b y e2) in
-    let h2 = took_both s b r (codes "lightrun report 1" ∷ codes "scheduler static" ∷ []) (third ∷ []) h1 (one_took reactors_in (λ n. line (codes "reactors" ∷ decimal n ∷ [])) b r reactors (λ l h. counted_text (codes "reactors") 1 16 l reactors h) e3) in
-    took_both s r p (codes "lightrun report 1" ∷ codes "scheduler static" ∷ third ∷ []) (line (codes "period" ∷ decimal period ∷ []) ∷ []) h2 (number_took Period r p period e4)
-
--- the parts of a static report, one behind the other, are its lines
-pub together : (xs : List (List ℕ)) (c : Contents) → xs ≡ first_lines Static c ++ images_lines c.script ++ clients_lines c.script → xs ++ rest_lines c ≡ lines_from Static None [] c
-together xs c e =
-    ap (λ q. q ++ rest_lines c) e ∙ spread (first_lines Static c ++ images_lines c.script ++ clients_lines c.script) (threads_lines c) (devices_lines c) (last_lines c)
+head_took : (s t : State) (h : Head) → head_at s ≡ Ok (h, t) → Took s (front h) t
+unfolding head_at
+head_took s t h e =
+    let a = read_parts (one (fixed_in Title) s) _ (h, t) e in
+    let b = read_parts (one scheduler_in a.0.1) _ (h, t) a.2 in
+    let r = read_parts (one reactors_in b.0.1) _ (h, t) b.2 in
+    let p = read_parts (one (number_of_in Period) r.0.1) _ (h, t) r.2 in
+    let w : Head = record { scheduler = b.0.0; reactors = r.0.0; period = p.0.0 } in
+    let title = codes "lightrun report 1" in
+    let second = scheduler_line b.0.0 in
+    let third = line (codes "reactors" ∷ decimal r.0.0 ∷ []) in
+    let h1 = took_both s a.0.1 b.0.1 (title ∷ []) (second ∷ []) (fixed_took Title s a.0.1 a.0.0 a.1) (one_took scheduler_in scheduler_line a.0.1 b.0.1 b.0.0 (λ l h. scheduler_text l b.0.0 h) b.1) in
+    let h2 = took_both s b.0.1 r.0.1 (title ∷ second ∷ []) (third ∷ []) h1 (one_took reactors_in (λ n. line (codes "reactors" ∷ decimal n ∷ [])) b.0.1 r.0.1 r.0.0 (λ l h. counted_text (codes "reactors") 1 16 l r.0.0 h) r.1) in
+    let h3 = took_both s r.0.1 p.0.1 (title ∷ second ∷ third ∷ []) (line (codes "period" ∷ decimal p.0.0 ∷ []) ∷ []) h2 (number_took Period r.0.1 p.0.1 p.0.0 p.1) in
+    subst (λ (q : Head × State). Took s (front q.0) q.1) (ok_is p.2) h3
   where
-    spread : (a b d z : List (List ℕ)) → a ++ (b ++ d ++ [] ++ [] ++ z) ≡ a ++ b ++ d ++ [] ++ [] ++ z
-    spread a b d z =
-        sym (append_assoc a (b ++ d ++ [] ++ []) z)
-        ∙ ap (λ q. q ++ z) (sym (append_assoc a (b ++ d ++ []) []) ∙ ap (λ q. q ++ []) (sym (append_assoc a (b ++ d) []) ∙ ap (λ q. q ++ []) (sym (append_assoc a b d))))
+    ok_is : {q : Head × State} → ◌≡◌ {A = Result (Head × State) ℕ} (Ok q) (Ok (h, t)) → q ≡ (h, t)
+    ok_is e = cc
 
-pub script_front : (c : Contents) → front c.reactors c.period ++ ((pool_line c.script ∷ []) ++ images_lines c.script ++ clients_lines c.script) ≡ first_lines Static c ++ images_lines c.script ++ clients_lines c.script
-unfolding front
-script_front c = refl
+abbrev pub script_lines : Script → List (List ℕ)
+script_lines s = (pool_line s ∷ []) ++ images_lines s ++ clients_lines s
+
+-- the parts of a report, one behind the other, are its lines
+pub together : (c : Contents) → front (head_of c) ++ script_lines c.script ++ rest_lines c ≡ lines_from c
+together c = spread (first_lines c ++ images_lines c.script ++ clients_lines c.script) (threads_lines c) (devices_lines c) (clock_lines c.span) (flat_map round_lines c.rounds) (last_lines c)
+  where
+    spread : (a b d p q z : List (List ℕ)) → a ++ (b ++ d ++ (p ++ q) ++ z) ≡ a ++ b ++ d ++ p ++ q ++ z
+    spread a b d p q z =
+        sym (append_assoc a (b ++ d ++ (p ++ q)) z)
+        ∙ ap (λ x. x ++ z) (sym (append_assoc a (b ++ d) (p ++ q)) ∙ ap (λ x. x ++ (p ++ q)) (sym (append_assoc a b d)) ∙ sym (append_assoc (a ++ b ++ d) p q))
 
 -- when all is read no line is left
-report_took : (s t : State) (c : Contents) → report_at s ≡ Ok (c, t) → s.lines ≡ fed (lines_from Static None [] c)
+report_took : (s t : State) (c : Contents) → report_at s ≡ Ok (c, t) → s.lines ≡ fed (lines_from c)
 report_took s t c e =
-    let a = read_parts (one (fixed_in Title) s) _ (c, t) e in
-    let b = read_parts (one (fixed_in StaticScheduler) a.0.1) _ (c, t) a.2 in
-    let r = read_parts (one reactors_in b.0.1) _ (c, t) b.2 in
-    let p = read_parts (one (number_of_in Period) r.0.1) _ (c, t) r.2 in
-    let k = read_parts (script_at p.0.1) _ (c, t) p.2 in
-    let rest = rest_said r.0.0 p.0.0 k.0.0 k.0.1 t c k.2 in
-    whole s p.0.1 k.0.1 t c
-    (subst (λ n. Took s (front n c.period) p.0.1) (sym rest.reactors_is) (subst (λ n. Took s (front r.0.0 n) p.0.1) (sym rest.period_is) (front_took s a.0.1 b.0.1 r.0.1 p.0.1 a.0.0 b.0.0 r.0.0 p.0.0 a.1 b.1 r.1 p.1)))
-    (subst (λ q. Took p.0.1 ((pool_line q ∷ []) ++ images_lines q ++ clients_lines q) k.0.1) (sym rest.script_is) (script_took p.0.1 k.0.1 k.0.0 k.1))
+    let h = read_parts (head_at s) _ (c, t) e in
+    let k = read_parts (script_at h.0.1) _ (c, t) h.2 in
+    let rest = rest_said h.0.0 k.0.0 k.0.1 t c k.2 in
+    whole s h.0.1 k.0.1 t c
+    (subst (λ n. Took s (front n) h.0.1) (sym rest.head_is) (head_took s h.0.1 h.0.0 h.1))
+    (subst (λ q. Took h.0.1 (script_lines q) k.0.1) (sym rest.script_is) (script_took h.0.1 k.0.1 k.0.0 k.1))
     rest.took rest.none
   where
-    whole : (s p k t : State) (c : Contents) → Took s (front c.reactors c.period) p → Took p ((pool_line c.script ∷ []) ++ images_lines c.script ++ clients_lines c.script) k → Took k (rest_lines c) t → t.lines ≡ [] → s.lines ≡ fed (lines_from Static None [] c)
+    whole : (s p k t : State) (c : Contents) → Took s (front (head_of c)) p → Took p (script_lines c.script) k → Took k (rest_lines c) t → t.lines ≡ [] → s.lines ≡ fed (lines_from c)
     whole s p k t c h1 h2 h3 none =
-        let script = (pool_line c.script ∷ []) ++ images_lines c.script ++ clients_lines c.script in
-        let before = front c.reactors c.period ++ script in
-        took_both s k t before (rest_lines c) (took_both s p k (front c.reactors c.period) script h1 h2) h3
+        let before = front (head_of c) ++ script_lines c.script in
+        took_both s k t before (rest_lines c) (took_both s p k (front (head_of c)) (script_lines c.script) h1 h2) h3
         ∙ ap (λ ls. fed (before ++ rest_lines c) ++ ls) none
         ∙ append-nil (fed (before ++ rest_lines c))
-        ∙ ap fed (together before c (script_front c))
+        ∙ ap fed (together c)
 
 -- ---- from lines to the text
 
@@ -255,11 +274,10 @@ joined-fed [] = refl
 joined-fed (l ∷ ls) = ap (λ q. (l ++ 10 ∷ []) ++ q) (joined-fed ls)
 
 -- what was read is the text of the record that says it
-pub told_text : (bytes : List ℕ) (r : Record) → reading bytes ≡ Ok (contents_of r) → IsStatic r → text_of r ≡ bytes
-told_text bytes r e is =
+pub told_text : (bytes : List ℕ) (r : Record) → reading bytes ≡ Ok (contents_of r) → text_of r ≡ bytes
+told_text bytes r e =
     let start : State = record { line = 1; lines = pieces bytes } in
     let a = read_parts (report_at start) (λ p. Ok p.0) (contents_of r) e in
     let same : a.0.0 ≡ contents_of r = ap (λ (q : Result Contents ℕ). elim q [ Ok c ↦ c | Err n ↦ a.0.0 ]) a.2 in
     let lines = report_took start a.0.1 a.0.0 a.1 in
-    ap text_of_lines (lines_are r is ∙ ap (lines_from Static None []) (sym same))
-    ∙ sym (joined-fed (lines_from Static None [] a.0.0)) ∙ ap joined (sym lines) ∙ joined-pieces bytes
+    ap text_of_lines (lines_are r ∙ ap lines_from (sym same)) ∙ sym (joined-fed (lines_from a.0.0)) ∙ ap joined (sym lines) ∙ joined-pieces bytes

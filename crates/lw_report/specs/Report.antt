@@ -10,14 +10,17 @@ use Rattle.lw_model.specs.declared.record.Reply.{Reply}
 use Rattle.lw_model.specs.declared.record.Seen.{Seen}
 use Rattle.lw_model.specs.ScriptRules.{rule_broken}
 use Rattle.lw_report.specs.declared.contents.Contents.{Contents}
-use Rattle.lw_report_lines.specs.declared.single.FixedLine.TheVariants.{Title, StaticScheduler, End}
+use Rattle.lw_report.specs.declared.contents.Head.{Head}
+use Rattle.lw_report_lines.specs.declared.single.FixedLine.TheVariants.{Title, End}
 use Rattle.lw_report_lines.specs.declared.single.NumberLine.{NumberLine}
 use Rattle.lw_report_lines.specs.declared.single.NumberLine.TheVariants.{Period, Images, Clients}
 use Rattle.lw_report_lines.specs.declared.single.PairLine.TheVariants.{Pool, Left}
 use Rattle.lw_report_lines.specs.Once.{fixed_in, number_of_in, pair_of_in, reactors_in}
 use Rattle.lw_report_lines.specs.LineKinds.{hop_in, ran_in, did_in, called_in, reply_in, seen_in, thread_in, device_in, image_in, client_in, op_in}
+use Rattle.lw_report_lines.specs.MoveLines.{scheduler_in}
 use Rattle.lw_base.specs.TextLines.{pieces, is_nil}
 use Rattle.lw_report.specs.Machine.{State, ◌>>=◌, one, many, numbered}
+use Rattle.lw_report.specs.Rounds.{moves_at}
 
 -- ---- the script
 
@@ -87,22 +90,39 @@ unfoldable pub devices_at : Script → State → Result (List DeviceEnd × State
 devices_at script s = numbered (length script.images) 0 (λ d. one (device_in d)) s
 
 -- what stands behind the script's lines
-abbrev pub rest_at : ℕ → ℕ → Script → State → Result (Contents × State) ℕ
-rest_at reactors period script s = do
+abbrev pub rest_at : Head → Script → State → Result (Contents × State) ℕ
+rest_at head script s = do
   threads ← threads_at script s
   devices ← devices_at script threads.1
-  home ← one (pair_of_in Left) devices.1
+  moves ← moves_at head.scheduler devices.1
+  home ← one (pair_of_in Left) moves.1
   end ← one (fixed_in End) home.1
-  finished (record { script = script; reactors = reactors; period = period; threads = threads.0; devices = devices.0; home = home.0 }) end.1
+  finished (record {
+    script = script;
+    scheduler = head.scheduler;
+    reactors = head.reactors;
+    period = head.period;
+    threads = threads.0;
+    devices = devices.0;
+    span = moves.0.span;
+    rounds = moves.0.rounds;
+    home = home.0;
+  }) end.1
+
+-- the lines before the script's
+unfoldable pub head_at : State → Result (Head × State) ℕ
+head_at s = do
+  title ← one (fixed_in Title) s
+  scheduler ← one scheduler_in title.1
+  reactors ← one reactors_in scheduler.1
+  period ← one (number_of_in Period) reactors.1
+  Ok (record { scheduler = scheduler.0; reactors = reactors.0; period = period.0 }, period.1)
 
 abbrev pub report_at : State → Result (Contents × State) ℕ
 report_at s = do
-  title ← one (fixed_in Title) s
-  scheduler ← one (fixed_in StaticScheduler) title.1
-  reactors ← one reactors_in scheduler.1
-  period ← one (number_of_in Period) reactors.1
-  script ← script_at period.1
-  rest_at reactors.0 period.0 script.0 script.1
+  head ← head_at s
+  script ← script_at head.1
+  rest_at head.0 script.0 script.1
 
 -- what a text says as a report, or its first bad line
 abbrev pub reading : List ℕ → Result Contents ℕ

@@ -6,6 +6,7 @@ mod laws;
 mod lines;
 mod parsed;
 mod report;
+mod rounds;
 mod sections;
 
 pub use laws::{texts_are_of_one_record, texts_are_read};

@@ -1,15 +1,14 @@
 //! A record from its text.
-ghost use Rattle.std.specs.Prelude.{◌≡◌, IfOk, None, [], true};
+ghost use Rattle.std.specs.Prelude.{◌≡◌, IfOk, true};
 ghost use Rattle.lw_model.specs.Printable.{is_printable};
-ghost use Rattle.lw_base.specs.declared.moves.Scheduler.TheVariants.{Static};
 ghost use Rattle.lw_report.specs.Report.{reading};
-ghost use Rattle.lw_report.specs.Parsed.{IsOfText, IsStatic, contents_of, Tells};
+ghost use Rattle.lw_report.specs.Parsed.{IsOfText, contents_of, Tells};
 
 use crate::contents::Contents;
 use crate::lines::{Lines, Stop};
 use crate::report::report;
 use lw_base::NoMemory;
-use lw_model::{Items, Record, Scheduler};
+use lw_model::Record;
 use std::alloc::{AllocError, Global};
 
 /// What a text is as a report.
@@ -21,35 +20,32 @@ pub enum Parsed {
     BadLine { line: u64 },
 }
 
-// The record of a static run with these fields.
-fn record(alloc: Global, contents: Contents) -> Record
-    requires { is_printable contents.script Static contents.reactors contents.period contents.threads contents.devices None [] ≡ true }
-    ensures contents { contents_of result ≡ contents }
-    ensures scheduler { IsStatic result }
+// The record with these fields.
+fn record(contents: Contents) -> Record
+    requires { is_printable contents.script contents.scheduler contents.reactors contents.period contents.threads contents.devices contents.span contents.rounds ≡ true }
+    ensures { contents_of result ≡ contents }
 {
     Record {
         script: contents.script,
-        scheduler: Scheduler::Static,
+        scheduler: contents.scheduler,
         reactors: contents.reactors,
         period: contents.period,
         threads: contents.threads,
         devices: contents.devices,
-        span: None,
-        rounds: Items::new(alloc),
+        span: contents.span,
+        rounds: contents.rounds,
         home: contents.home,
     }
 }
 
-/// Reads the text of a report.
-///
-/// `scheduler dynamic` isn't served yet: it is bad line 2.
+/// Reads the text of a report, of a static or a dynamic run.
 pub fn read_report(alloc: Global, bytes: &[u8]) -> Result<Parsed, NoMemory>
     ensures told { IfOk result (λ p. Tells p (reading bytes.now)) }
     ensures text { IfOk result (λ p. IsOfText p bytes.now) }
 {
     let mut lines = Lines::of(bytes);
     match report(alloc, &mut lines) {
-        Ok(contents) => Ok(Parsed::Told(record(alloc, contents))),
+        Ok(contents) => Ok(Parsed::Told(record(contents))),
         Err(Stop::BadLine) => Ok(Parsed::BadLine { line: lines.line() }),
         Err(Stop::NoMemory) => Err(AllocError),
     }

@@ -2,14 +2,15 @@
 ghost use Rattle.std.specs.Prelude.{◌≡◌, ◌+◌, ◌<◌, ◌≤◌, ◌^◌, IfOk, length, is_none};
 ghost use Rattle.lw_model.specs.ScriptRules.{rule_broken};
 ghost use Rattle.lw_report.specs.Machine.{Says};
-ghost use Rattle.lw_report.specs.Report.{reading, report_at, rest_at, script_at, threads_at, devices_at};
+ghost use Rattle.lw_report.specs.Report.{head_at, report_at, rest_at, script_at, threads_at, devices_at};
 
-use crate::contents::Contents;
+use crate::contents::{Contents, Head};
 use crate::lines::{Lines, Stop, numbered};
+use crate::rounds::moves;
 use crate::sections::{ClientPart, DevicePart, ImagePart, ThreadPart, list};
 use lw_base::NoMemory;
 use lw_model::{DeviceEnd, Home, Items, Script, ThreadRecord};
-use lw_report_lines::{FixedLine, NumberLine, PairLine, ReactorsLine};
+use lw_report_lines::{FixedLine, NumberLine, PairLine, ReactorsLine, SchedulerLine};
 use lw_script_rules::rule_broken;
 use std::alloc::Global;
 
@@ -60,27 +61,25 @@ fn devices(alloc: Global, lines: &mut Lines<'_>, script: &Script) -> Result<Item
 }
 
 // What stands behind the script's lines, up to the end of the text.
-fn rest(
-    alloc: Global,
-    lines: &mut Lines<'_>,
-    reactors: u32,
-    period: u64,
-    script: Script,
-) -> Result<Contents, Stop>
+fn rest(alloc: Global, lines: &mut Lines<'_>, head: Head, script: Script) -> Result<Contents, Stop>
     requires accepted { rule_broken script ≡ None }
-    ensures { Says result lines.new (rest_at reactors period script lines.old) }
+    ensures { Says result lines.new (rest_at head script lines.old) }
 {
     let threads = threads(alloc, lines, &script)?;
     let devices = devices(alloc, lines, &script)?;
+    let moves = moves(alloc, lines, head.scheduler)?;
     let home = lines.one(alloc, &PairLine::Left)?;
     lines.one(alloc, &FixedLine::End)?;
     if lines.is_empty() {
         Ok(Contents {
             script,
-            reactors,
-            period,
+            scheduler: head.scheduler,
+            reactors: head.reactors,
+            period: head.period,
             threads,
             devices,
+            span: moves.span,
+            rounds: moves.rounds,
             home,
         })
     } else {
@@ -88,14 +87,27 @@ fn rest(
     }
 }
 
+// The lines before the script's.
+#[tactic(auto, unfolding(crate::specs::Report::head_at))]
+fn head(alloc: Global, lines: &mut Lines<'_>) -> Result<Head, Stop>
+    ensures { Says result lines.new (head_at lines.old) }
+{
+    lines.one(alloc, &FixedLine::Title)?;
+    let scheduler = lines.one(alloc, &SchedulerLine)?;
+    let reactors = lines.one(alloc, &ReactorsLine)?;
+    let period = lines.one(alloc, &NumberLine::Period)?;
+    Ok(Head {
+        scheduler,
+        reactors,
+        period,
+    })
+}
+
 /// What a text says as a report; else the first line that is left is the first bad one.
 pub fn report(alloc: Global, lines: &mut Lines<'_>) -> Result<Contents, Stop>
     ensures { Says result lines.new (report_at lines.old) }
 {
-    lines.one(alloc, &FixedLine::Title)?;
-    lines.one(alloc, &FixedLine::StaticScheduler)?;
-    let reactors = lines.one(alloc, &ReactorsLine)?;
-    let period = lines.one(alloc, &NumberLine::Period)?;
+    let head = head(alloc, lines)?;
     let script = script(alloc, lines)?;
-    rest(alloc, lines, reactors, period, script)
+    rest(alloc, lines, head, script)
 }

@@ -2,6 +2,7 @@ pub mod HexTexts
 pub mod LineRanges
 pub mod LineTexts
 pub mod LinesBack
+pub mod Moves
 pub mod Names
 pub mod PartTexts
 pub mod PartsBack

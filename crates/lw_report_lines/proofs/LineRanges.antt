@@ -38,10 +38,10 @@ use Rattle.lw_report_lines.proofs.PartTexts.{number_most}
 
 -- ---- numbers
 
-spaced_most : (most : ℕ) (l : List ℕ) (p : ℕ × List ℕ) → spaced most l ≡ Some p → p.0 ≤ most
+pub spaced_most : (most : ℕ) (l : List ℕ) (p : ℕ × List ℕ) → spaced most l ≡ Some p → p.0 ≤ most
 spaced_most most l p e = let a = some_parts (after (32 ∷ []) l) (number most) p e in number_most most a.0 p.0 p.1 a.2
 
-last32_fits : (l : List ℕ) (n : ℕ) → last32 l ≡ Some n → Fits32 n
+pub last32_fits : (l : List ℕ) (n : ℕ) → last32 l ≡ Some n → Fits32 n
 last32_fits l n e =
     let a = some_parts (spaced greatest_u32 l) _ n e in
     let b = if_some (is_end a.0.1) a.0.0 n a.2 in

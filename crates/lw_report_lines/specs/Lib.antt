@@ -1,3 +1,4 @@
 pub mod LineParts
 pub mod LineKinds
 pub mod Once
+pub mod MoveLines

@@ -3,7 +3,7 @@ use Rattle.std.specs.Prelude.{ℕ, List, codes, if◌then◌else◌, is_some, Op
 use Rattle.lw_base.specs.declared.ends.Home.{Home}
 use Rattle.lw_base.specs.Words.{greatest_u64}
 use Rattle.lw_report_lines.specs.declared.single.FixedLine.{FixedLine}
-use Rattle.lw_report_lines.specs.declared.single.FixedLine.TheVariants.{Title, StaticScheduler, End}
+use Rattle.lw_report_lines.specs.declared.single.FixedLine.TheVariants.{Title, End}
 use Rattle.lw_report_lines.specs.declared.single.NumberLine.{NumberLine}
 use Rattle.lw_report_lines.specs.declared.single.NumberLine.TheVariants.{Period, Images, Clients}
 use Rattle.lw_report_lines.specs.declared.single.PairLine.{PairLine}
@@ -12,7 +12,6 @@ use Rattle.lw_report_lines.specs.LineKinds.{text_in, number_in, pair_in}
 
 abbrev pub fixed_text : FixedLine → List ℕ
 fixed_text Title = codes "lightrun report 1"
-fixed_text StaticScheduler = codes "scheduler static"
 fixed_text End = codes "end"
 
 -- a line that is always the same

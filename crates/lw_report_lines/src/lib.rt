@@ -3,14 +3,16 @@
 
 mod kinds;
 mod line_kinds;
+mod move_lines;
 mod parts;
 mod placed_lines;
 mod script_lines;
 mod single;
 
 pub use line_kinds::{
-    CalledLine, ClientLine, DeviceLine, DidLine, HopLine, ImageLine, Kind, OpLine, RanLine,
-    ReplyLine, SeenLine, ThreadLine,
+    CalledLine, ClientLine, ClockLine, DeviceLine, DidLine, HopLine, ImageLine, Kind, OpLine,
+    OrderLine, RanLine, ReplyLine, RoundLine, RowLine, SchedulerLine, SeenLine, ThreadLine,
 };
+pub use move_lines::RoundHead;
 pub use script_lines::ClientHead;
 pub use single::{FixedLine, NumberLine, PairLine, ReactorsLine};

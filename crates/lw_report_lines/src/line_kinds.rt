@@ -2,10 +2,13 @@
 ghost use Rattle.std.specs.Prelude.{◌≡◌};
 
 use crate::kinds::{called, did, hop, ran, reply, seen};
+use crate::move_lines::{RoundHead, clock, order, round, row, scheduler};
 use crate::placed_lines::{device, thread};
 use crate::script_lines::{ClientHead, client, image, op};
 use lw_base::{NoMemory, Tag};
-use lw_model::{Called, DeviceEnd, Did, Hop, ImageOf, Op, Reply, RoleKind, Seen};
+use lw_model::{
+    Called, DeviceEnd, Did, Hop, ImageOf, Op, Order, Reply, RoleKind, Row, Scheduler, Seen, Span,
+};
 use std::alloc::Global;
 
 /// A kind of line.
@@ -201,5 +204,85 @@ impl Kind for DeviceLine {
 
     fn read(&self, _alloc: Global, line: &[u8]) -> Result<Option<DeviceEnd>, NoMemory> {
         Ok(device(line, self.number))
+    }
+}
+
+/// The scheduler's line
+#[derive(Copy, Clone, Drop)]
+pub struct SchedulerLine;
+
+impl Kind for SchedulerLine {
+    ghost use Rattle.lw_report_lines.specs.MoveLines.{scheduler_in};
+
+    type Value = Scheduler;
+
+    ghost of = { λ k l. scheduler_in l };
+
+    fn read(&self, _alloc: Global, line: &[u8]) -> Result<Option<Scheduler>, NoMemory> {
+        Ok(scheduler(line))
+    }
+}
+
+/// The clock's line
+#[derive(Copy, Clone, Drop)]
+pub struct ClockLine;
+
+impl Kind for ClockLine {
+    ghost use Rattle.lw_report_lines.specs.MoveLines.{clock_in};
+
+    type Value = Span;
+
+    ghost of = { λ k l. clock_in l };
+
+    fn read(&self, _alloc: Global, line: &[u8]) -> Result<Option<Span>, NoMemory> {
+        Ok(clock(line))
+    }
+}
+
+/// `round` lines
+#[derive(Copy, Clone, Drop)]
+pub struct RoundLine;
+
+impl Kind for RoundLine {
+    ghost use Rattle.lw_report_lines.specs.MoveLines.{round_in};
+
+    type Value = RoundHead;
+
+    ghost of = { λ k l. round_in l };
+
+    fn read(&self, _alloc: Global, line: &[u8]) -> Result<Option<RoundHead>, NoMemory> {
+        Ok(round(line))
+    }
+}
+
+/// `row` lines
+#[derive(Copy, Clone, Drop)]
+pub struct RowLine;
+
+impl Kind for RowLine {
+    ghost use Rattle.lw_report_lines.specs.MoveLines.{row_in};
+
+    type Value = Row;
+
+    ghost of = { λ k l. row_in l };
+
+    fn read(&self, _alloc: Global, line: &[u8]) -> Result<Option<Row>, NoMemory> {
+        Ok(row(line))
+    }
+}
+
+/// `order` lines
+#[derive(Copy, Clone, Drop)]
+pub struct OrderLine;
+
+impl Kind for OrderLine {
+    ghost use Rattle.lw_report_lines.specs.MoveLines.{order_in};
+
+    type Value = Order;
+
+    ghost of = { λ k l. order_in l };
+
+    fn read(&self, _alloc: Global, line: &[u8]) -> Result<Option<Order>, NoMemory> {
+        Ok(order(line))
     }
 }

@@ -12,7 +12,6 @@ use std::alloc::Global;
 #[derive(Copy, Clone, Drop)]
 pub enum FixedLine {
     Title,
-    StaticScheduler,
     End,
 }
 
@@ -22,7 +21,6 @@ impl FixedLine {
     {
         match self {
             FixedLine::Title => "lightrun report 1",
-            FixedLine::StaticScheduler => "scheduler static",
             FixedLine::End => "end",
         }
     }

@@ -3,6 +3,8 @@
 #![tactic(auto)]
 
 #[cfg(test)]
+mod dynamic_reports;
+#[cfg(test)]
 mod report_words;
 #[cfg(test)]
 mod reports;

@@ -4,9 +4,9 @@ use lw_report::{Parsed, read_report};
 use std::alloc::Global;
 use std::test::Fail;
 
-// Each kind of line with each kind of op, message, answer, reply and result.
+// Each kind of line with each kind of op, message, answer, reply and result, under the dynamic scheduler.
 const EACH_KIND: &str =
-    "lightrun report 1\nscheduler static\nreactors 2\nperiod 10\npool 1 1\nimages 2\nimage m 16 4\nimage n-x 32 1\nclients 2\nclient a 4 9\nop get 0\nop put 1\nop write 0 0 1 ffff\nop read 0 0 1\nop flush 1\nop wait 5\nop visit 0\nop each\nop unregister 1\nclient b 32 0\nthread 0 app 0\nhop 1 1\nran 1 0 visit 1 6 0\nran 1 1 cast 1 7\nran 2 0 done\ndid 0 0 began 4\ncalled 1 1\nthread 1 client 0\nran 4 0 visited 6\nran 4 1 casted 7\nran 3 0 reply 3\nran 1 0 putself 0\ndid 0 0 given 0\ndid 0 1 nochannel\ndid 0 2 again 3\ndid 0 3 shut\ndid 0 4 counted\ndid 0 5 waited\ndid 0 6 started\ndid 0 7 already\ndid 0 8 sent\ndid 0 8 deferred\ndid 0 9 closed\ncalled 1 1\nreply 2 ok\nreply 3 bytes abcd\nreply 4 writes 7\nseen 6 0:0 4:1\nseen 6\nseen 7 0 1\nthread 2 client 0\nthread 3 owner 1\nran 1 0 request 2\nran 0 0 stop\nthread 4 owner 0\ndevice 0 1 0 1\ndevice 1 0 4 1\nhome 0 7\nend\n";
+    "lightrun report 1\nscheduler dynamic\nreactors 2\nperiod 10\npool 1 1\nimages 2\nimage m 16 4\nimage n-x 32 1\nclients 2\nclient a 4 9\nop get 0\nop put 1\nop write 0 0 1 ffff\nop read 0 0 1\nop flush 1\nop wait 5\nop visit 0\nop each\nop unregister 1\nclient b 32 0\nthread 0 app 0\nhop 1 1\nran 1 0 visit 1 6 0\nran 1 1 cast 1 7\nran 2 0 done\ndid 0 0 began 4\ncalled 1 1\nthread 1 client 0\nran 4 0 visited 6\nran 4 1 casted 7\nran 3 0 reply 3\nran 1 0 putself 0\ndid 0 0 given 0\ndid 0 1 nochannel\ndid 0 2 again 3\ndid 0 3 shut\ndid 0 4 counted\ndid 0 5 waited\ndid 0 6 started\ndid 0 7 already\ndid 0 8 sent\ndid 0 8 deferred\ndid 0 9 closed\ncalled 1 1\nreply 2 ok\nreply 3 bytes abcd\nreply 4 writes 7\nseen 6 0:0 4:1\nseen 6\nseen 7 0 1\nthread 2 client 0\nthread 3 owner 1\nran 1 0 request 2\nran 0 0 stop\nthread 4 owner 0\ndevice 0 1 0 1\ndevice 1 0 4 1\nclock 0 30\nround 1 10\nrow 0 1 7 0\nrow 3 0 0 18446744073709551615\norder 0 1\norder 3 1\nround 2 20\nhome 0 7\nend\n";
 
 // What is done to a word.
 #[derive(Copy, Clone)]

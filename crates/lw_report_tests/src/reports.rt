@@ -57,7 +57,7 @@ fn an_edited_line_is_the_bad_one(rt: HostRuntime) -> Result<(), Fail> {
     let alloc = rt.alloc();
     for (old, new, line) in [
         ("report 1", "report 2", 1),
-        ("static", "dynamic", 2),
+        ("static", "dynamic", 48),
         ("static", "static ", 2),
         ("reactors 2", "reactors 0", 3),
         ("reactors 2", "reactors 17", 3),

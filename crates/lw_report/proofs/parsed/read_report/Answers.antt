@@ -15,8 +15,7 @@ returns-in-Ok-clause-text c =
     told_text c.args.bytes.now c.record.result
     (ap (λ (s : State). report_at s >>= (λ p. Ok p.0)) (sym c.of-lines.ensures)
     ∙ ap (λ (r : Result (Contents × State) ℕ). r >>= (λ p. Ok p.0)) c.in-Ok.ensures
-    ∙ ap (λ (x : Contents). Ok x) (sym c.record.ensures.contents))
-    c.record.ensures.scheduler
+    ∙ ap (λ (x : Contents). Ok x) (sym c.record.ensures))
 
 pub returns-in-Err-BadLine-clause-text : goal.returns-in-Err-BadLine-clause-text
 returns-in-Err-BadLine-clause-text c =

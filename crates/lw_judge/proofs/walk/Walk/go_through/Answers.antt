@@ -5,7 +5,7 @@ use Rattle.lw_model.specs.OwnOrder.{own_order}
 use Rattle.lw_model.proofs.Printed.{parts}
 use Rattle.lw_judge_threads.specs.LinesOf.{IsPlaced}
 use Rattle.lw_judge_threads.proofs.Threads.{listed}
-use Rattle.lw_judge_messages.proofs.ThreadCounts.{few_threads}
+use Rattle.lw_judge_threads.proofs.ThreadCounts.{few_threads}
 use Rattle.lw_judge.proofs.WalkSteps.{placed}
 use Rattle.lw_judge.proofs.walk.Walk.go_through.Goals as goal
 

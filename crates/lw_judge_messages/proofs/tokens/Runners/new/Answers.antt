@@ -4,7 +4,7 @@ use Rattle.lw_model.specs.Threads.{ran_of, thread_count}
 use Rattle.std.proofs.lemmas.Option.{slice_get-get_or}
 use Rattle.lw_model.proofs.Printed.{parts}
 use Rattle.lw_judge_messages.specs.Tokens.{is_run}
-use Rattle.lw_judge_messages.proofs.ThreadCounts.{few_threads}
+use Rattle.lw_judge_threads.proofs.ThreadCounts.{few_threads}
 use Rattle.lw_judge_threads.proofs.Threads.{listed}
 use Rattle.lw_judge_messages.proofs.RunnerLists.{AllBelow, below_in_range, filter-range_push}
 use Rattle.lw_judge_messages.proofs.tokens.Runners.new.Goals as goal

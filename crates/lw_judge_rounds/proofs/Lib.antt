@@ -1,0 +1,5 @@
+mod Differing
+mod Homes
+mod KnownMoves
+mod RoundSteps
+mod Rows
