@@ -73,12 +73,15 @@ check_unread() {
 script=$top/crates/lightrun/stdin
 report=$top/crates/lightrun/stdout
 usage="usage: lightrun run, check, walk or load SEED OPS"
+moved=$top/examples/moved.report
 printf 'lawful\n' >"$work/lawful"
 printf 'world 1 1 0\nsend 0 0\n' >"$work/walk"
 printf '1 ok\nthread 0 list 0\npair 0 0 1 0\nreactor 0 awake\n' >"$work/answer"
 printf 'world 1 1 0\nsend 0\n' >"$work/no_walk"
 printf '{}' >"$work/no_script"
 sed 's/^did 2 3 deferred$/did 1 3 deferred/' "$report" >"$work/unlawful"
+sed '/^order 1 0$/d' "$moved" >"$work/unordered"
+sed 's/^order 1 0$/order 1 1/' "$moved" >"$work/misplaced"
 : >"$work/none"
 
 check 0 "" "$report" "$script" run
@@ -91,6 +94,9 @@ check 2 "script: not JSON" "$work/none" "$report" run
 check 2 "script: shape 1" "$work/none" "$work/no_script" run
 check 2 "walk: line 2" "$work/none" "$work/no_walk" walk
 check 6 "unlawful: clause 3 line 25" "$work/none" "$work/unlawful" check
+check 0 "" "$work/lawful" "$moved" check
+check 6 "unlawful: clause 1 line 16" "$work/none" "$work/unordered" check
+check 6 "unlawful: clause 1 line 16" "$work/none" "$work/misplaced" check
 for words in "run" "check" "walk"; do check_unread "$words"; done
 check_full "$script" run
 check_full "$report" check

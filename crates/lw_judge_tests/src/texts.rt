@@ -267,36 +267,3 @@ device 1 1 0 1
 home 1 1
 end
 ";
-
-/// A dynamic run, which isn't served yet.
-pub const DYNAMIC: &str = "\
-lightrun report 1
-scheduler dynamic
-reactors 2
-period 10
-pool 1 1
-images 1
-image m 16 1
-clients 1
-client a 1 1
-op wait 5
-thread 0 app 0
-ran 1 0 done
-did 1 0 began 0
-called 1 0
-thread 1 client 1
-hop 1 0
-did 0 0 waited
-did 0 1 closed
-thread 2 owner 0
-ran 0 0 stop
-device 0 0 0 1
-clock 0 10
-round 1 10
-row 0 0 0 0
-row 1 1 0 0
-row 2 0 0 0
-order 1 0
-home 1 1
-end
-";

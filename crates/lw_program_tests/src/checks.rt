@@ -125,7 +125,7 @@ fn the_first_bad_line_is_of_clause_0(rt: HostRuntime) -> Result<(), Fail> {
     for (from, to, line) in [
         (REPORT, "", "6 unlawful: clause 0 line 1"),
         ("report 1", "report 2", "6 unlawful: clause 0 line 1"),
-        ("static", "dynamic", "6 unlawful: clause 0 line 2"),
+        ("static", "dynamic", "6 unlawful: clause 0 line 34"),
         ("reactors 1", "reactors 17", "6 unlawful: clause 0 line 3"),
         ("op put 0\n", "op put 1\n", "6 unlawful: clause 0 line 14"),
         (

@@ -292,7 +292,24 @@ impl<M: Tagged + Drop> Acts<M> {
         requires { AreSends M.letter M.marked self.old.threads rest.items }
         ensures { OnOk result (self.new ≡ record self.old { pending = self.old.pending ++ sends_of rest.items }) }
     {
-        let mut rest = rest;
-        self.asked.append(&mut rest)
+        let first = mem::replace(&mut self.asked, VecDeque::new(self.alloc));
+        self.asked = put_before(first, rest)?;
+        Ok(())
     }
+}
+
+// Both, the first before the rest. It moves the first alone, since they are few: of many sends that come back one by one the
+// rest would be moved for each.
+fn put_before<T: Drop>(first: VecDeque<T>, rest: VecDeque<T>) -> Result<VecDeque<T>, NoMemory>
+    ensures { IfOk result (λ all. all.items ≡ first.items ++ rest.items) }
+{
+    let mut first = first;
+    let mut all = rest;
+    for _ in 0..first.len() {
+        let Some(item) = first.pop_back() else {
+            unreachable!()
+        };
+        all.push_front(item)?;
+    }
+    Ok(all)
 }

@@ -1,0 +1,4 @@
+pub mod OneRing
+pub mod Fitting
+pub mod Waiting
+pub mod OnePass
