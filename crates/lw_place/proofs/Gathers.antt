@@ -10,20 +10,26 @@ use Rattle.lw_place.specs.PlaceTable.{StandsAt, times}
 use Rattle.lw_place.proofs.Standing.{times_here}
 use Rattle.lw_place.specs.declared.place.Place.{Place}
 use Rattle.lw_place.specs.declared.table.Stand.{Stand}
-use Rattle.lw_place.specs.PlaceSeats.{Places, ThreadEnd, DeskEnd, BundleEnd, places_of, stand, all_retired, all_halted, most_seen, AreEnded, AreAllSeats, Holds}
+use Rattle.lw_place.specs.PlaceSeats.{Places, ThreadEnd, DeskEnd, BundleEnd, places_of, stand, all_retired, all_halted, most, most_seen, most_halt_seen, AreEnded, AreAllSeats, Holds}
 
--- what a desk saw is at most what was seen most
-seen_most : (n k : ℕ) (x : DeskEnd) (ds : List DeskEnd) → k < length ds → slice_index_or ds k x ≡ x → n ≤ x.done_seen → n ≤ most_seen ds
-seen_most n k x [] l is e = absurd (omega arith)
-seen_most n zero x (d ∷ ds) l is e = let same = ap (λ (y : DeskEnd). y.done_seen) is in omega arith
-seen_most n (suc k) x (d ∷ ds) l is e = let r = seen_most n k x ds (omega arith) is e in omega arith
+-- what a desk has is at most the greatest
+seen_most : (number : DeskEnd → ℕ) (n k : ℕ) (x : DeskEnd) (ds : List DeskEnd) → k < length ds → slice_index_or ds k x ≡ x → n ≤ number x → n ≤ most number ds
+seen_most number n k x [] l is e = absurd (omega arith)
+seen_most number n zero x (d ∷ ds) l is e = let same = ap number is in omega arith
+seen_most number n (suc k) x (d ∷ ds) l is e = let r = seen_most number n k x ds (omega arith) is e in omega arith
 
 any_seen : (n : ℕ) (ds : List DeskEnd) → Any (λ d. n ≤ d.done_seen) ds → n ≤ most_seen ds
-any_seen n ds a = seen_most n a.0 a.1 ds a.2 a.3 a.4
+any_seen n ds a = seen_most (λ d. d.done_seen) n a.0 a.1 ds a.2 a.3 a.4
 
-pub most_snoc : (ds : List DeskEnd) (d : DeskEnd) → most_seen (ds ++ d ∷ []) ≡ max (most_seen ds) d.done_seen
-most_snoc [] d = omega arith
-most_snoc (x ∷ ds) d = let r = most_snoc ds d in omega arith
+-- each has at most the greatest
+pub each_most : (number : DeskEnd → ℕ) (ds : List DeskEnd) → All (λ d. number d ≤ most number ds) ds
+each_most number [] k d l = elim l [ ]
+each_most number (x ∷ ds) zero d l = omega arith
+each_most number (x ∷ ds) (suc k) d l = let r = each_most number ds k d (omega arith) in omega arith
+
+pub most_snoc : (number : DeskEnd → ℕ) (ds : List DeskEnd) (d : DeskEnd) → most number (ds ++ d ∷ []) ≡ max (most number ds) (number d)
+most_snoc number [] d = omega arith
+most_snoc number (x ∷ ds) d = let r = most_snoc number ds d in omega arith
 
 -- all desks are of one table's places
 pub same_places : (p q : Places) (ds : List DeskEnd) → 1 ≤ length ds → All (λ d. d.places ≡ p) ds → All (λ d. d.places ≡ q) ds → p ≡ q
@@ -37,12 +43,13 @@ pub record Gathered (p : Places) (ts : List ThreadEnd) (ds : List DeskEnd) (b : 
   pub retired : b.view.retired ≡ all_retired ds
   pub halted : b.view.halted ≡ all_halted ds
   pub seen : b.view.done_seen ≡ most_seen ds
+  pub halt_seen : b.view.halt_seen ≡ most_halt_seen ds
   pub stands : b.view.stands ≡ map stand ts
 
 pub gathers : (ts : List ThreadEnd) (ds : List DeskEnd) (j w : BundleEnd) (a : AreAllSeats ts ds)
     → All (λ d. d.places ≡ places_of j.table j.view) ds
-    → Holds (places_of j.table j.view) (length ds) (all_retired ds) (all_halted ds) (most_seen ds) [] j
-    → Holds (places_of j.table j.view) j.view.desks j.view.retired j.view.halted j.view.done_seen (j.view.stands ++ map stand ts) w
+    → Holds (places_of j.table j.view) (length ds) (all_retired ds) (all_halted ds) (most_seen ds) (most_halt_seen ds) [] j
+    → Holds (places_of j.table j.view) j.view.desks j.view.retired j.view.halted j.view.done_seen j.view.halt_seen (j.view.stands ++ map stand ts) w
     → Gathered a.places ts ds w
 gathers ts ds j w a of h g =
     let same = same_places a.places (places_of j.table j.view) ds a.some_desk a.its_desks of in
@@ -53,6 +60,7 @@ gathers ts ds j w a of h g =
       retired = g.retired ∙ h.retired;
       halted = g.halted ∙ h.halted;
       seen = g.seen ∙ h.seen;
+      halt_seen = g.halt_seen ∙ h.halt_seen;
       stands = g.stands ∙ ap (λ (xs : List Stand). xs ++ map stand ts) h.stands;
     }
 

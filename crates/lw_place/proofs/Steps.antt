@@ -1,5 +1,5 @@
 -- Each kind of step keeps the rule of the places.
-use Rattle.std.proofs.Common.{◌≡◌, ℕ, suc, ◌+◌, ◌-◌, ◌*◌, ◌%◌, ◌<◌, ◌≤◌, min, List, [], ◌∷◌, length, set, refl, sym, ap, subst, ◌∙◌, arith, All, Contains, slice_index, Some, length-set, get_or-set_same, get_or-set_other}
+use Rattle.std.proofs.Common.{◌≡◌, ℕ, suc, ◌+◌, ◌++◌, ◌-◌, ◌*◌, ◌%◌, ◌<◌, ◌≤◌, min, List, [], ◌∷◌, length, set, refl, sym, ap, subst, ◌∙◌, arith, All, Contains, slice_index, Some, length-set, get_or-set_same, get_or-set_other}
 use Rattle.std.proofs.lemmas.List.Elements.{All-nil, All-cons, All-head, All-weaker}
 use mathlib.Core.Option.{none, some}
 use lib.ListN.{get_elem?}
@@ -221,7 +221,7 @@ looks homes slots id me t some_threads below s h _ at small =
     let f = there.2 in
     let is : word_of x.place ≡ n = sym (word_at s.words x t there.1 f.word) in
     let place_is : x.place ≡ place_of n = sym (place_in_word homes.reactors x.place h.few f.below) ∙ ap place_of is in
-    let w : PlaceView = record v { looks = v.looks + 1; found = Some (record { thread = t + first_word - first_word; place = place_of n }) } in (
+    let w : PlaceView = record v { looks = v.looks + 1; found = v.found ++ record { thread = t + first_word - first_word; place = place_of n } ∷ [] } in (
       w,
       keeps,
       tt,
@@ -279,6 +279,7 @@ learns_halt homes slots id me some_threads s h _ at small =
         all = λ has_all. (let none_else = others_none desks s.views id v at (omega arith) in
             let only = total_only halted s.views id v at (λ j u apart e. (let z = none_else j u apart e in let k = (h.each j u e).halted_desks in omega arith)) in
             h.halt ∙ ap (λ k. min 1 k) only);
+        seen = λ was. (let a = (h.each id v at).halt_seen in let z = h.halt in omega arith);
       },
     )
 

@@ -1,5 +1,5 @@
 -- What callers see of the seats.
-use Rattle.std.specs.Prelude.{◌≡◌, ◌⊎◌, ℕ, ◌+◌, ◌<◌, ◌≤◌, max, List, [], ◌∷◌, length, replicate, All, Any, slice_index_or, Option, None, ⊤}
+use Rattle.std.specs.Prelude.{◌≡◌, ◌⊎◌, ℕ, ◌+◌, ◌<◌, ◌≤◌, max, List, [], ◌∷◌, length, replicate, All, Any, slice_index_or, ⊤}
 use Rattle.atomic_table.specs.Seated.{TableId}
 use Rattle.atomic_table.specs.declared.shared.Seat.{Seat}
 use Rattle.lw_place.specs.declared.place.Place.TheVariants as place
@@ -23,7 +23,7 @@ pub record ThreadEnd : Type 0 where
   pub place : Place
 
 -- a desk: of which places it is, how many threads it has retired, whether it has halted the run (0 or 1), how often it
--- looked, and what it saw last: of the count of retired threads, of the halt word, and of a thread
+-- looked, what it saw last of the count of retired threads and of the halt word, and what it found of threads, look by look
 pub record DeskEnd : Type 0 where
   pub places : Places
   pub retired : ℕ
@@ -31,7 +31,7 @@ pub record DeskEnd : Type 0 where
   pub looks : ℕ
   pub done_seen : ℕ
   pub halt_seen : ℕ
-  pub found : Option Stand
+  pub found : List Stand
 
 -- any seat, with the whole of what it knows
 pub record BundleEnd : Type 0 where
@@ -97,7 +97,7 @@ pub record KeepsDesk (table : TableId) (seat : Seat (Unit {0}) PlaceView) : Type
 
 -- a new desk
 abbrev pub new_desk : Places → DeskEnd
-new_desk p = record { places = p; retired = 0; halted = 0; looks = 0; done_seen = 0; halt_seen = 0; found = None }
+new_desk p = record { places = p; retired = 0; halted = 0; looks = 0; done_seen = 0; halt_seen = 0; found = [] }
 
 -- the seats of new places, of threads that start at these: thread t is at the t-th, and there is a desk for each reactor
 pub record AreNew (starts : List Place) (reactors : ℕ) (ts : List ThreadEnd) (ds : List DeskEnd) : Type 0 where
@@ -115,10 +115,17 @@ all_retired ds = total (λ d. d.retired) ds
 abbrev pub all_halted : List DeskEnd → ℕ
 all_halted ds = total (λ d. d.halted) ds
 
--- the most that one of these desks saw of the count of retired threads
+-- the greatest number that one of these desks has
+abbrev pub most : (DeskEnd → ℕ) → List DeskEnd → ℕ
+most number [] = 0
+most number (d ∷ ds) = max (number d) (most number ds)
+
+-- the most that one of these desks saw of the count of retired threads, and of the halt word
 abbrev pub most_seen : List DeskEnd → ℕ
-most_seen [] = 0
-most_seen (d ∷ ds) = max d.done_seen (most_seen ds)
+most_seen ds = most (λ d. d.done_seen) ds
+
+abbrev pub most_halt_seen : List DeskEnd → ℕ
+most_halt_seen ds = most (λ d. d.halt_seen) ds
 
 -- these threads have ended, they are as many as all desks have retired, and a desk saw at least as many retired as there
 -- are
@@ -141,10 +148,11 @@ abbrev pub stand : ThreadEnd → Stand
 stand t = record { thread = t.thread; place = t.place }
 
 -- what a seat knows into which so many desks were gathered, and these threads
-pub record Holds (p : Places) (count done halts most : ℕ) (xs : List Stand) (b : BundleEnd) : Type 0 where
+pub record Holds (p : Places) (count done halts saw_done saw_halt : ℕ) (xs : List Stand) (b : BundleEnd) : Type 0 where
   pub of : places_of b.table b.view ≡ p
   pub desks : b.view.desks ≡ count
   pub retired : b.view.retired ≡ done
   pub halted : b.view.halted ≡ halts
-  pub seen : b.view.done_seen ≡ most
+  pub seen : b.view.done_seen ≡ saw_done
+  pub halt_seen : b.view.halt_seen ≡ saw_halt
   pub stands : b.view.stands ≡ xs

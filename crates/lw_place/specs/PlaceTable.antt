@@ -1,5 +1,5 @@
 -- The words of the places and what ties them to the seats.
-use Rattle.std.specs.Prelude.{◌≡◌, ℕ, ◌+◌, ◌-◌, ◌*◌, ◌<◌, ◌≤◌, ◌==◌, if◌then◌else◌, min, max, List, [], ◌∷◌, ◌++◌, length, map, slice_index, All, Contains, Some, None}
+use Rattle.std.specs.Prelude.{◌≡◌, ℕ, ◌+◌, ◌-◌, ◌*◌, ◌<◌, ◌≤◌, ◌==◌, if◌then◌else◌, min, max, List, [], ◌∷◌, ◌++◌, length, map, slice_index, All, Contains}
 use mathlib.Core.Option.{some}
 use lib.ListN.{get_elem?}
 use Rattle.atomic_table.specs.Table.{State, Me, Step}
@@ -74,7 +74,7 @@ words_of places = 0 ∷ 0 ∷ map word_of places
 
 -- a view of a seat that has done nothing
 abbrev pub new_view : ℕ → ℕ → List Stand → ℕ → PlaceView
-new_view threads reactors stands desks = record { threads = threads; reactors = reactors; stands = stands; desks = desks; retired = 0; halted = 0; looks = 0; done_seen = 0; halt_seen = 0; found = None }
+new_view threads reactors stands desks = record { threads = threads; reactors = reactors; stands = stands; desks = desks; retired = 0; halted = 0; looks = 0; done_seen = 0; halt_seen = 0; found = [] }
 
 -- a new table's one view stands for all
 abbrev pub first_view : Homes → PlaceView
@@ -178,7 +178,7 @@ pub record LooksAtHalt (step : Step (Unit {0})) (old : Sat) (word : ℕ) (new : 
 pub record Looks (step : Step (Unit {0})) (old : Sat) (word : ℕ) (new : Sat) : Type 0 where
   pub sees : new ≡ with_view old (record (view_of old) {
     looks = (view_of old).looks + 1;
-    found = Some (record { thread = step.word - first_word; place = place_of word });
+    found = (view_of old).found ++ record { thread = step.word - first_word; place = place_of word } ∷ [];
   })
   pub below : IsBelow (view_of old).reactors (place_of word)
   pub fits : IsWord word
@@ -192,9 +192,11 @@ pub record LearnsDone (step : Step (Unit {0})) (old : Sat) (word : ℕ) (new : S
   pub few : length (view_of old).stands ≤ (view_of old).threads
   pub once : (thread : ℕ) → thread < (view_of old).threads → times thread (view_of old).stands ≤ 1
 
+-- a seat with all desks learns that the run is halted exactly where one of them did so; where it was seen halted, it is
 pub record LearnsHalt (step : Step (Unit {0})) (old : Sat) (word : ℕ) (new : Sat) : Type 0 where
   pub same : new ≡ old
   pub all : (view_of old).desks ≡ (view_of old).reactors → word ≡ min 1 (view_of old).halted
+  pub seen : 1 ≤ (view_of old).halt_seen → word ≡ 1
 
 -- the thread is one of these, and all of these that are it stand there
 pub record StandsAt (xs : List Stand) (thread : ℕ) (p : Place) : Type 0 where

@@ -101,11 +101,12 @@ impl Bundle {
         self.table.shared.load::<LearningDone>(&mut self.seat, DONE)
     }
 
-    // Whether the run was halted: where it stands for all desks, whether one of them did so.
+    // Whether the run was halted: where it stands for all desks, whether one of them did so; and where it was seen, it is.
     pub(crate) fn halted(&mut self) -> bool
         ensures same { self.new ≡ self.old }
         ensures all { self.old.view.desks ≡ self.old.view.reactors →
             (result ≡ true → 1 ≤ self.old.view.halted) × (result ≡ false → self.old.view.halted ≡ 0) }
+        ensures seen { 1 ≤ self.old.view.halt_seen → result ≡ true }
     {
         self.table.shared.load::<LearningHalt>(&mut self.seat, HALT) == 1
     }

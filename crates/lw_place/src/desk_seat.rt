@@ -1,5 +1,5 @@
 //! A reactor's desk.
-ghost use Rattle.std.specs.Prelude.{◌≡◌, ◌+◌, ◌<◌, ◌≤◌, max, true, false, [], Some};
+ghost use Rattle.std.specs.Prelude.{◌≡◌, ◌+◌, ◌<◌, ◌≤◌, max, true, false, [], ◌∷◌, ◌++◌};
 ghost use Rattle.lw_place.specs.PlaceWord.{IsBelow, most_threads};
 ghost use Rattle.lw_place.specs.PlaceSeats.{desk_of};
 
@@ -63,7 +63,7 @@ impl DeskSeat {
         requires { thread < self.old.places.threads }
         ensures seen { self.new ≡ record self.old {
           looks = self.old.looks + 1;
-          found = Some (record { thread = thread; place = result });
+          found = self.old.found ++ record { thread = thread; place = result } ∷ [];
         } }
         ensures below { IsBelow self.old.places.reactors result }
     {

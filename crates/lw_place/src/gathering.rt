@@ -1,7 +1,7 @@
 //! What is known of the places once all seats are in one hand.
 ghost use Rattle.std.specs.Prelude.{◌≡◌, ℕ, ◌+◌, ◌<◌, ◌≤◌, true, false, [], ◌++◌, length, map, slice_index_or, All, IfOk};
 ghost use Rattle.lw_place.specs.PlaceTable.{times, StandsAt};
-ghost use Rattle.lw_place.specs.PlaceSeats.{AreAllSeats, all_retired, all_halted, most_seen, stand, Places, places_of, Holds};
+ghost use Rattle.lw_place.specs.PlaceSeats.{AreAllSeats, all_retired, all_halted, most_seen, most_halt_seen, stand, Places, places_of, Holds};
 
 use crate::bundle::Bundle;
 use crate::desk_seat::DeskSeat;
@@ -25,8 +25,8 @@ pub struct Whole {
 ///
 /// All desks are handed in, and all threads: as many as were made; or ended ones, as many as the desks retired, where a
 /// desk saw at least as many retired as there are threads. The order of the seats does not matter. There are as many seats
-/// of threads as threads were made, each thread's once, and each thread stands where its seat says. Without memory the
-/// seats are dropped.
+/// of threads as threads were made, each thread's once, and each thread stands where its seat says. What a desk saw is so:
+/// as many were retired at least, and a run that was seen halted is halted. Without memory the seats are dropped.
 pub fn gather(
     alloc: Global,
     threads: Vec<ThreadSeat>,
@@ -45,6 +45,9 @@ pub fn gather(
     ensures done { IfOk result (λ w. w.done ≡ all_retired desks.items) }
     ensures halted { IfOk result (λ w. (w.halted ≡ true → 1 ≤ all_halted desks.items)
         × (w.halted ≡ false → all_halted desks.items ≡ 0)) }
+    ensures done_seen { IfOk result (λ w. All (λ d. d.done_seen ≤ w.done) desks.items) }
+    ensures halt_seen { IfOk result (λ w.
+        All (λ d. 1 ≤ d.halt_seen → w.halted ≡ true) desks.items) }
 {
     let mut whole = join_threads(join_desks(desks), threads);
     let done = whole.done();
@@ -63,7 +66,7 @@ fn join_desks(mut desks: Vec<DeskSeat>) -> Bundle
     requires one_table { (p : Places) × All (λ d. d.places ≡ p) desks.items }
     ensures of { All (λ d. d.places ≡ places_of result.table result.view) desks.items }
     ensures holds { Holds (places_of result.table result.view) (length desks.items) (all_retired desks.items)
-        (all_halted desks.items) (most_seen desks.items) [] result }
+        (all_halted desks.items) (most_seen desks.items) (most_halt_seen desks.items) [] result }
 {
     let Some(first) = desks.pop() else {
         unreachable!()
@@ -79,7 +82,7 @@ fn join_desks(mut desks: Vec<DeskSeat>) -> Bundle
 fn join_threads(mut whole: Bundle, threads: Vec<ThreadSeat>) -> Bundle
     requires { All (λ t. t.places ≡ places_of whole.table whole.view) threads.items }
     ensures { Holds (places_of whole.table whole.view) whole.view.desks whole.view.retired whole.view.halted
-        whole.view.done_seen (whole.view.stands ++ map stand threads.items) result }
+        whole.view.done_seen whole.view.halt_seen (whole.view.stands ++ map stand threads.items) result }
 {
     for thread in threads {
         whole.take_in(thread.into_bundle());

@@ -50,8 +50,8 @@ pub struct PlaceView {
     pub done_seen: u64,
     /// 1 where the last look at the halt word found the run halted, and else 0.
     pub halt_seen: u64,
-    /// At which thread they last looked, and what they found.
-    pub found: Option<Stand>,
+    /// At which threads the desk looked, and what it found, in the order of the looks.
+    pub found: LinkedList<Stand>,
 }
 
 /// The rule that ties the words to the views. It is for no caller.

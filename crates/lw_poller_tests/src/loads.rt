@@ -72,21 +72,31 @@ fn publish_often<R: Wait>(rt: &R, mut pass: LoadPass)
 }
 
 // Reads as often, and says whether each pair was whole.
-fn read_often<R: Wait>(rt: &R, mut reader: LoadReader) -> bool
+fn read_often<R: Wait>(rt: &R, mut reader: LoadReader) -> (LoadReader, bool)
     requires { length reader ≡ 1 }
+    ensures { length result.0 ≡ 1 }
 {
     let mut whole = true;
     for _ in 0..2000 {
         let found = reader.read(rt, 0);
-        whole = whole && found.idle / 2 == found.busy;
+        whole = whole && found.idle / 2 == found.busy && found.idle % 2 == 0;
     }
-    whole
+    (reader, whole)
 }
 
 #[test]
 fn a_machine_thread_publishes_while_another_reads(rt: HostRuntime) -> Result<(), Fail> {
     let (pass, reader) = one(rt.alloc())?;
-    let ((), whole) = thread::join(&rt, || publish_often(&rt, pass), || read_often(&rt, reader));
+    let ((), (mut reader, whole)) = thread::join(
+        &rt,
+        || publish_often(&rt, pass),
+        || read_often(&rt, reader),
+    );
     assert!(rt; whole);
+    let last = Figures {
+        busy: 1999,
+        idle: 3998,
+    };
+    assert!(rt; reader.read(&rt, 0) == last);
     Ok(())
 }

@@ -107,11 +107,26 @@ fn one_held(alloc: Global) -> Result<(ThreadSeat, DeskSeat), NoMemory>
 }
 
 #[test]
-fn a_held_thread_is_started_once(rt: HostRuntime) -> Result<(), Fail> {
+fn a_held_thread_starts_in_its_reactors_list(rt: HostRuntime) -> Result<(), Fail> {
     let (mut thread, mut desk) = one_held(rt.alloc())?;
     assert!(rt; desk.look(1) == Place::Held(1) && desk.look(0) == Place::List(0));
     thread.start();
     assert!(rt; desk.look(1) == Place::List(1) && thread.place() == Place::List(1));
+    Ok(())
+}
+
+// The places of a thread that reactor 1 holds and of one in a list, gathered at once.
+fn held_at_home(alloc: Global) -> Result<Whole, NoMemory> {
+    let starts = [Start::Held(1), Start::List(0)];
+    let (threads, desks) = places(alloc, starts.as_slice(), 2)?;
+    gather(alloc, threads, desks)
+}
+
+#[test]
+fn a_held_thread_is_gathered_where_it_is_held(rt: HostRuntime) -> Result<(), Fail> {
+    let whole = held_at_home(rt.alloc())?;
+    assert!(rt; whole.places.as_slice() == [Place::Held(1), Place::List(0)].as_slice());
+    assert!(rt; whole.done == 0 && !whole.halted);
     Ok(())
 }
 

@@ -5,8 +5,8 @@ use Rattle.lw_place.specs.PlaceTable.{times, StandsAt}
 use Rattle.lw_place.specs.declared.place.Place.TheVariants as place
 use Rattle.lw_place.specs.declared.place.Place.{Place}
 use Rattle.lw_place.specs.declared.table.Stand.{Stand}
-use Rattle.lw_place.specs.PlaceSeats.{BundleEnd, places_of, stand}
-use Rattle.lw_place.proofs.Gathers.{same_places, gathers, all_stand, times_among, ends_there}
+use Rattle.lw_place.specs.PlaceSeats.{BundleEnd, DeskEnd, places_of, stand}
+use Rattle.lw_place.proofs.Gathers.{each_most, same_places, gathers, all_stand, times_among, ends_there}
 use Rattle.lw_place.proofs.gathering.gather.Goals as goal
 
 pub join_threads-whole-requires : goal.join_threads-whole-requires
@@ -77,3 +77,21 @@ returns-clause-once c = λ t l.
     let some_there = times_among t (slice_index_or c.in_ok-places.places.items t p) (map stand c.args.threads.items) at.among in
     let at_most = subst (λ (xs : List Stand). times t xs ≤ 1) g.stands (d.once t (let n = c.in_ok-places.ensures.count in omega arith)) in
     omega arith
+
+pub returns-clause-done_seen : goal.returns-clause-done_seen
+returns-clause-done_seen c = λ k d l.
+    let w = c.join_threads-whole.result in
+    let g = gathers c.args.threads.items c.args.desks.items c.join_desks.result w c.requires c.join_desks.ensures.of c.join_desks.ensures.holds c.join_threads-whole.ensures in
+    let most = each_most (λ (x : DeskEnd). x.done_seen) c.args.desks.items k d l in
+    let seen = c.done-done.ensures.seen in
+    let is = g.seen in
+    omega arith
+
+pub returns-clause-halt_seen : goal.returns-clause-halt_seen
+returns-clause-halt_seen c = λ k d l some.
+    let w = c.join_threads-whole.result in
+    let g = gathers c.args.threads.items c.args.desks.items c.join_desks.result w c.requires c.join_desks.ensures.of c.join_desks.ensures.holds c.join_threads-whole.ensures in
+    let most = each_most (λ (x : DeskEnd). x.halt_seen) c.args.desks.items k d l in
+    let now = ap (λ (e : BundleEnd). e.view.halt_seen) c.done-done.ensures.same in
+    let is = g.halt_seen in
+    c.halted-halted.ensures.seen (omega arith)

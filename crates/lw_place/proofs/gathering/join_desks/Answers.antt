@@ -3,7 +3,7 @@ use Rattle.std.proofs.lemmas.List.Elements.{All-rest}
 use Rattle.std.specs.Vec.Iter.{into_iter_items}
 use Rattle.std.proofs.lemmas.List.{nil_from_length}
 use Rattle.lw_place.specs.declared.table.Stand.{Stand}
-use Rattle.lw_place.specs.PlaceSeats.{BundleEnd, DeskEnd, places_of, all_retired, all_halted, most_seen}
+use Rattle.lw_place.specs.PlaceSeats.{BundleEnd, DeskEnd, places_of, all_retired, all_halted, most_seen, most_halt_seen}
 use Rattle.lw_base.proofs.Totals.{total_snoc}
 use Rattle.lw_place.proofs.Gathers.{most_snoc}
 use Rattle.lw_place.proofs.gathering.join_desks.Goals as goal
@@ -22,6 +22,7 @@ loop-desk-preserved c =
       retired = (let a = ap (λ (e : BundleEnd). e.view.retired) t in let z = ap (λ (d : DeskEnd). d.retired) b.desk in let n = ap all_retired s in let o = i.retired in omega arith);
       halted = (let a = ap (λ (e : BundleEnd). e.view.halted) t in let z = ap (λ (d : DeskEnd). d.halted) b.desk in let n = ap all_halted s in let o = i.halted in omega arith);
       seen = (let a = ap (λ (e : BundleEnd). e.view.done_seen) t in let z = ap (λ (d : DeskEnd). d.done_seen) b.desk in let n = ap most_seen s in let o = i.seen in omega arith);
+      halt_seen = (let a = ap (λ (e : BundleEnd). e.view.halt_seen) t in let z = ap (λ (d : DeskEnd). d.halt_seen) b.desk in let n = ap most_halt_seen s in let o = i.halt_seen in omega arith);
       stands = ap (λ (e : BundleEnd). e.view.stands) t ∙ ap (λ (xs : List Stand). xs ++ c.into_bundle.result.view.stands) i.stands ∙ b.no_threads;
       of = All-rest (λ (d : DeskEnd). d.places ≡ places_of first.table first.view) c.in-Some-desk.desk rest (into_iter_items c.loop-desk.desk-iterator) s i.of;
     }
@@ -42,6 +43,7 @@ returns-clause-holds c =
       desks = (let a = i.desks in let b = f.one_desk in let n = ap length is ∙ length-append others (first ∷ []) in let m = ap length all in omega arith);
       retired = (let a = i.retired in let b = ap (λ (d : DeskEnd). d.retired) f.desk in let n = ap all_retired is ∙ total_snoc (λ (d : DeskEnd). d.retired) others first in let m = ap all_retired all in let z = ap all_retired none in omega arith);
       halted = (let a = i.halted in let b = ap (λ (d : DeskEnd). d.halted) f.desk in let n = ap all_halted is ∙ total_snoc (λ (d : DeskEnd). d.halted) others first in let m = ap all_halted all in let z = ap all_halted none in omega arith);
-      seen = (let a = i.seen in let b = ap (λ (d : DeskEnd). d.done_seen) f.desk in let n = ap most_seen is ∙ most_snoc others first in let m = ap most_seen all in let z = ap most_seen none in omega arith);
+      seen = (let a = i.seen in let b = ap (λ (d : DeskEnd). d.done_seen) f.desk in let n = ap most_seen is ∙ most_snoc (λ d. d.done_seen) others first in let m = ap most_seen all in let z = ap most_seen none in omega arith);
+      halt_seen = (let a = i.halt_seen in let b = ap (λ (d : DeskEnd). d.halt_seen) f.desk in let n = ap most_halt_seen is ∙ most_snoc (λ d. d.halt_seen) others first in let m = ap most_halt_seen all in let z = ap most_halt_seen none in omega arith);
       stands = i.stands;
     }

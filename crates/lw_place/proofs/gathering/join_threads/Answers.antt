@@ -20,6 +20,7 @@ loop-thread-preserved c =
       retired = (let a = ap (λ (e : BundleEnd). e.view.retired) t in let z = ap (λ (v : PlaceView). v.retired) b in let o = i.retired in omega arith);
       halted = (let a = ap (λ (e : BundleEnd). e.view.halted) t in let z = ap (λ (v : PlaceView). v.halted) b in let o = i.halted in omega arith);
       seen = (let a = ap (λ (e : BundleEnd). e.view.done_seen) t in let z = ap (λ (v : PlaceView). v.done_seen) b in let o = i.seen in omega arith);
+      halt_seen = (let a = ap (λ (e : BundleEnd). e.view.halt_seen) t in let z = ap (λ (v : PlaceView). v.halt_seen) b in let o = i.halt_seen in omega arith);
       stands = ap (λ (e : BundleEnd). e.view.stands ++ map stand rest) t ∙ ap (λ (v : PlaceView). (old ++ v.stands) ++ map stand rest) b ∙ append_assoc old (stand c.in-Some.thread ∷ []) (map stand rest)
           ∙ ap (λ (ts : List ThreadEnd). old ++ map stand ts) (sym s) ∙ i.stands;
       of = All-rest (λ (e : ThreadEnd). e.places ≡ places_of first.table first.view) c.in-Some.thread rest (into_iter_items c.loop-thread.thread-iterator) s i.of;

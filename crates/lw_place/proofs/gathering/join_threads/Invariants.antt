@@ -14,6 +14,7 @@ invariant-loop-thread l =
       retired : l.whole.view.retired ≡ first.view.retired;
       halted : l.whole.view.halted ≡ first.view.halted;
       seen : l.whole.view.done_seen ≡ first.view.done_seen;
+      halt_seen : l.whole.view.halt_seen ≡ first.view.halt_seen;
       stands : l.whole.view.stands ++ map stand rest ≡ first.view.stands ++ map stand (into_iter_items l.initial.thread-iterator);
       of : All (λ (t : ThreadEnd). t.places ≡ places_of first.table first.view) rest;
     }
