@@ -1,4 +1,3 @@
 pub mod OneRing
 pub mod Fitting
-pub mod Waiting
 pub mod OnePass

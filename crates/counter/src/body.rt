@@ -17,7 +17,7 @@ pub struct Counter {
 
 impl Counter {
     // Sends a message for the next number, or asks for the end where there is none.
-    #[tactic(auto, using(lw_thread::proofs::Adding::adds_send, lw_thread::proofs::Adding::adds_beside))]
+    #[tactic(auto, using(lw_thread::proofs::Adding::adds_send, lw_thread::proofs::Adding::adds_end))]
     fn go_on(&self, acts: &mut Acts<Note>) -> Result<(), NoMemory>
         requires { 0 < acts.old.threads }
         ensures adds { OnOk result (Adds acts.old acts.new) }
@@ -67,7 +67,7 @@ impl Body for Counter {
     }
 
     // The first call sets the counting going, and takes the poller away.
-    #[tactic(auto, using(crate::proofs::Fitting::notes_fit, lw_thread::proofs::Adding::adds_beside, lw_thread::proofs::Adding::adds_both))]
+    #[tactic(auto, using(crate::proofs::Fitting::notes_fit, lw_thread::proofs::Adding::adds_remove, lw_thread::proofs::Adding::adds_both))]
     fn tick<R: Wait>(
         &mut self,
         _rt: &R,

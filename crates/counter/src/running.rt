@@ -19,7 +19,7 @@ pub struct Run {
 const MOST_POLLS: u32 = 1_000;
 
 /// Polls the thread until it has ended, but not without end.
-#[tactic(auto, using(crate::proofs::Waiting::still_listed, crate::proofs::Waiting::still_going))]
+#[tactic(auto, using(lw_thread::proofs::Waiting::still_listed, lw_thread::proofs::Waiting::still_going))]
 pub fn run_to_end<R: Wait>(rt: &R, thread: LightThread<Counter>) -> Result<Option<Run>>
     requires { IsList thread.seat.place × (thread.stopped ≡ false) }
 {

@@ -1,6 +1,7 @@
 -- What a poll keeps while it calls the body.
-use Rattle.std.proofs.Common.{◌≡◌, ℕ, ◌+◌, ◌≤◌, Bool, true, false, List, [], ◌∷◌, ◌++◌, length, map, refl, sym, ap, subst, ◌∙◌, arith, append_assoc, Any, ⊎_elim}
-use Rattle.std.specs.Prelude.{slice_index_or, ◌||◌, ◌↔◌, IsTrue}
+use Rattle.std.proofs.Common.{◌≡◌, ℕ, ◌+◌, ◌≤◌, Bool, true, false, List, [], ◌∷◌, ◌++◌, length, map, refl, sym, ap, subst, ◌∙◌, arith, append_assoc, Any, ⊎_elim, Ok, Err}
+use Rattle.std.specs.Prelude.{slice_index_or, ◌||◌, ◌↔◌, IsTrue, OnErr}
+use Rattle.std.specs.declared.result.Result.{Result}
 use Rattle.std.proofs.lemmas.List.{append-nil, length_push, length-take, map-append}
 use Rattle.std.proofs.lemmas.List.Quantifiers.{Any-push}
 use Rattle.std.proofs.lemmas.Bool.{cases_lt, false≢true}
@@ -14,7 +15,7 @@ use Rattle.lw_thread.specs.Acts.{Known, Asks, Post, ActsEnd, Doing, AllFit, asks
 use Rattle.lw_thread.specs.Calls.{AreOf, IsToRun, Adds}
 use Rattle.lw_thread.specs.Links.{Tied, known_tied, Nexts}
 use Rattle.lw_thread.specs.Polls.{Flow, Tick, RunsAll, TicksActive, TicksTimed, WasBusy, one_more}
-use Rattle.lw_thread.specs.Posting.{IsGoing, flow_tied}
+use Rattle.lw_thread.specs.Posting.{IsGoing, RunsPart, flow_tied}
 use Rattle.lw_thread.proofs.Chains.{WentActive, WentTimed, active_more, timed_more, runs_more}
 use Rattle.lw_thread.proofs.Live.{counts}
 
@@ -105,20 +106,24 @@ module _ {L F M B : Type 0} (ticks : ℕ → ℕ → Work → Doing M B → Doin
       → (place : ℕ) × IsNextActive a.pollers place × GivesActive place poller a.pollers b.pollers
       → b ≡ record a { pollers = b.pollers }
       → ticks poller now w (record { body = x; acts = b }) (record { body = y; acts = c })
+      → Adds b c
       → WentActive ticks now (calls ++ record { poller = poller; work = w } ∷ []) s (flow_tied l c y)
-  step_active now calls s l a b c x y poller w went next rest does =
+  step_active now calls s l a b c x y poller w went next rest does adds =
       active_more ticks now calls (record { poller = poller; work = w }) s (flow_tied l a x) next.0 b.pollers (record { body = y; acts = c }) went next.1 next.2
       (subst (λ (q : ActsEnd M). ticks poller now w (record { body = x; acts = q }) (record { body = y; acts = c })) rest does)
+      (subst (λ (q : ActsEnd M). Adds q c) rest adds)
 
   pub step_timed : (now : ℕ) (calls : List Tick) (s : Flow L F M B) (l : Tied L F) (a b c : ActsEnd M) (x y : B) (poller : ℕ) (w : Work)
       → WentTimed ticks now calls s (flow_tied l a x)
       → (place : ℕ) × IsNextTimed a.pollers place × GivesTimed place poller a.pollers b.pollers
       → b ≡ record a { pollers = b.pollers }
       → ticks poller now w (record { body = x; acts = b }) (record { body = y; acts = c })
+      → Adds b c
       → WentTimed ticks now (calls ++ record { poller = poller; work = w } ∷ []) s (flow_tied l c y)
-  step_timed now calls s l a b c x y poller w went next rest does =
+  step_timed now calls s l a b c x y poller w went next rest does adds =
       timed_more ticks now calls (record { poller = poller; work = w }) s (flow_tied l a x) next.0 b.pollers (record { body = y; acts = c }) went next.1 next.2
       (subst (λ (q : ActsEnd M). ticks poller now w (record { body = x; acts = q }) (record { body = y; acts = c })) rest does)
+      (subst (λ (q : ActsEnd M). Adds q c) rest adds)
 
   -- there is no further one
   pub end_active : (now : ℕ) (calls : List Tick) (s : Flow L F M B) (l : Tied L F) (a b : ActsEnd M) (x : B) → WentActive ticks now calls s (flow_tied l a x) → NoneActive a.pollers → b ≡ a → TicksActive ticks now calls s (flow_tied l b x)
@@ -137,14 +142,24 @@ part_noted {L} {F} tag_of k l m run x noted next =
     ap (λ (t : Tied L F). t.ran ++ tag_of x ∷ []) noted ∙ append_assoc k.ran (map tag_of run) (tag_of x ∷ []) ∙ ap (λ ts. k.ran ++ ts) (sym (map-append tag_of run (x ∷ []))) in
     next.ran ∙ (λ i. record { thread = (noted i).thread; recv = (noted i).recv; ends = (noted i).ends; ran = log i; left = m.left })
 
+-- a message of the batch was run, and its handler stopped
+pub part_run : {L F M B : Type 0} (tag_of : L → Tag) (runs : L → ℕ → Doing M B → Doing M B → Type 0) (now : ℕ) (run : List L) (x : L) (k l m : Tied L F) (a b : ActsEnd M) (c d : B)
+    → k.left ≡ (run ++ x ∷ []) ++ m.left → m ≡ record k { ran = k.ran ++ map tag_of (run ++ x ∷ []); left = m.left } → RunsAll runs now run (flow_tied k a c) (flow_tied l b d) → RunsPart tag_of runs now k m a c
+part_run tag_of runs now run x k l m a b c d parts noted each = record { done = run; last = x; parts = parts; noted = noted; after_run = flow_tied l b d; run_each = each }
+
+-- what holds anyway holds where a call failed
+pub on_error : {T E X : Type 0} (r : Result T E) → X → OnErr r X
+on_error (Ok t) x = tt
+on_error (Err e) x = x
+
 -- what is known as run is no longer than the log
 pub taken_count : {L F : Type 0} (l : Tied L F) → length (known_tied l).ran ≤ length l.ran
 taken_count l = let e = length-take (length l.ran) l.recv.taken in omega arith
 
 -- one message more is run
 pub run_step : {L F M B : Type 0} (runs : L → ℕ → Doing M B → Doing M B → Type 0) (tag_of : L → Tag) (now : ℕ) (run : List L) (x : L) (s : Flow L F M B) (l m : Tied L F) (a c d : ActsEnd M) (b y : B)
-    → RunsAll runs now run s (flow_tied l a b) → Nexts tag_of x l m → runs x now (record { body = b; acts = a }) (record { body = y; acts = c }) → d ≡ record c { ran = c.ran + 1 }
+    → RunsAll runs now run s (flow_tied l a b) → Nexts tag_of x l m → runs x now (record { body = b; acts = a }) (record { body = y; acts = c }) → Adds a c → d ≡ record c { ran = c.ran + 1 }
     → RunsAll runs now (run ++ x ∷ []) s (flow_tied m d y)
-run_step {L} {F} {M} {B} runs tag_of now run x s l m a c d b y each next does counted =
+run_step {L} {F} {M} {B} runs tag_of now run x s l m a c d b y each next does adds counted =
     let is : flow_tied m d y ≡ record { body = y; acts = one_more c; ends = l.ends } = λ i. record { body = y; acts = counted i; ends = (next.ran i).ends } in
-    subst (λ (t : Flow L F M B). RunsAll runs now (run ++ x ∷ []) s t) (sym is) (runs_more runs now run x s (flow_tied l a b) (record { body = y; acts = c }) each does)
+    subst (λ (t : Flow L F M B). RunsAll runs now (run ++ x ∷ []) s t) (sym is) (runs_more runs now run x s (flow_tied l a b) (record { body = y; acts = c }) each does adds)

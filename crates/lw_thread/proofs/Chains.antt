@@ -10,6 +10,7 @@ use Rattle.lw_poller.specs.LocalDue.{IsNextActive, IsNextTimed}
 use Rattle.lw_poller.specs.Changes.{GivesActive, GivesTimed}
 use Rattle.lw_thread.specs.declared.body.Work.{Work}
 use Rattle.lw_thread.specs.Acts.{Post, ActsEnd, Doing}
+use Rattle.lw_thread.specs.Calls.{Adds}
 use Rattle.lw_thread.specs.Links.{marked_from}
 use Rattle.lw_thread.specs.Polls.{Flow, Tick, RunsAll, TicksActive, TicksTimed, Sends, IsReturned, doing, with_doing, with_pollers, with_pending, one_more}
 use Rattle.lw_thread.proofs.Counting.{set_same, set_twice, at_set_here}
@@ -25,9 +26,9 @@ module _ {L F M B : Type 0} where
     abbrev pub after : Flow L F M B → Doing M B → Flow L F M B
     after s u = with_doing s (record u { acts = one_more u.acts })
 
-    pub runs_more : (now : ℕ) (xs : List L) (x : L) (s t : Flow L F M B) (u : Doing M B) → RunsAll runs now xs s t → runs x now (doing t) u → RunsAll runs now (xs ++ x ∷ []) s (after t u)
-    runs_more now [] x s t u h r = (u, subst (λ (v : Flow L F M B). runs x now (doing v) u) h r, ap (λ (v : Flow L F M B). after v u) h)
-    runs_more now (y ∷ ys) x s t u h r = (h.0, h.1, runs_more now ys x (after s h.0) t u h.2 r)
+    pub runs_more : (now : ℕ) (xs : List L) (x : L) (s t : Flow L F M B) (u : Doing M B) → RunsAll runs now xs s t → runs x now (doing t) u → Adds t.acts u.acts → RunsAll runs now (xs ++ x ∷ []) s (after t u)
+    runs_more now [] x s t u h r a = (u, subst (λ (v : Flow L F M B). runs x now (doing v) u) h r, subst (λ (v : Flow L F M B). Adds v.acts u.acts) h a, ap (λ (v : Flow L F M B). after v u) h)
+    runs_more now (y ∷ ys) x s t u h r a = (h.0, h.1, h.2, runs_more now ys x (after s h.0) t u h.3 r a)
 
   -- Some calls were made, from s to t, where any that follow from t on follow these from s on.
   module _ (ticks : ℕ → ℕ → Work → Doing M B → Doing M B → Type 0) where
@@ -39,14 +40,14 @@ module _ {L F M B : Type 0} where
 
     -- one call more
     pub active_more : (now : ℕ) (done : List Tick) (c : Tick) (s t : Flow L F M B) (place : ℕ) (ps : Pollers) (u : Doing M B)
-        → WentActive now done s t → IsNextActive t.acts.pollers place → GivesActive place c.poller t.acts.pollers ps → ticks c.poller now c.work (doing (with_pollers t ps)) u
+        → WentActive now done s t → IsNextActive t.acts.pollers place → GivesActive place c.poller t.acts.pollers ps → ticks c.poller now c.work (doing (with_pollers t ps)) u → Adds (with_pollers t ps).acts u.acts
         → WentActive now (done ++ c ∷ []) s (with_doing t u)
-    active_more now done c s t place ps u went next gives does = λ cs v h. subst (λ l. TicksActive ticks now l s v) (sym (append_assoc done (c ∷ []) cs)) (went (c ∷ cs) v (place, next, ps, gives, u, does, h))
+    active_more now done c s t place ps u went next gives does adds = λ cs v h. subst (λ l. TicksActive ticks now l s v) (sym (append_assoc done (c ∷ []) cs)) (went (c ∷ cs) v (place, next, ps, gives, u, does, adds, h))
 
     pub timed_more : (now : ℕ) (done : List Tick) (c : Tick) (s t : Flow L F M B) (place : ℕ) (ps : Pollers) (u : Doing M B)
-        → WentTimed now done s t → IsNextTimed t.acts.pollers place → GivesTimed place c.poller t.acts.pollers ps → ticks c.poller now c.work (doing (with_pollers t ps)) u
+        → WentTimed now done s t → IsNextTimed t.acts.pollers place → GivesTimed place c.poller t.acts.pollers ps → ticks c.poller now c.work (doing (with_pollers t ps)) u → Adds (with_pollers t ps).acts u.acts
         → WentTimed now (done ++ c ∷ []) s (with_doing t u)
-    timed_more now done c s t place ps u went next gives does = λ cs v h. subst (λ l. TicksTimed ticks now l s v) (sym (append_assoc done (c ∷ []) cs)) (went (c ∷ cs) v (place, next, ps, gives, u, does, h))
+    timed_more now done c s t place ps u went next gives does adds = λ cs v h. subst (λ l. TicksTimed ticks now l s v) (sym (append_assoc done (c ∷ []) cs)) (went (c ∷ cs) v (place, next, ps, gives, u, does, adds, h))
 
   module _ (thread : ℕ) (letter : M → L) (marked : L → ℕ → ℕ → L) (takes_back : ℕ → L → Doing M B → Doing M B → Type 0) where
     abbrev pub Went : List Bool → Flow L F M B → Flow L F M B → Type 0
@@ -57,9 +58,9 @@ module _ {L F M B : Type 0} where
 
     -- one send comes back, and the body takes it
     pub back_more : (done : List Bool) (s t : Flow L F M B) (p : Post M) (rest : List (Post M)) (es : List (Sender L F)) (u : Doing M B)
-        → Went done s t → t.acts.pending ≡ p ∷ rest → IsReturned thread letter marked takes_back p t.ends es → takes_back p.to (letter p.what) (doing (with_pending t [])) u
+        → Went done s t → t.acts.pending ≡ p ∷ rest → IsReturned thread letter marked takes_back p t.ends es → takes_back p.to (letter p.what) (doing (with_pending t [])) u → Adds (with_pending t []).acts u.acts
         → Went (done ++ true ∷ []) s (record { body = u.body; acts = record u.acts { pending = u.acts.pending ++ rest }; ends = es })
-    back_more done s t p rest es u went is came does = λ bs v h. subst (λ l. Sends thread letter marked takes_back l s v) (sym (append_assoc done (true ∷ []) bs)) (went (true ∷ bs) v (p, rest, is, es, came, u, does, h))
+    back_more done s t p rest es u went is came does adds = λ bs v h. subst (λ l. Sends thread letter marked takes_back l s v) (sym (append_assoc done (true ∷ []) bs)) (went (true ∷ bs) v (p, rest, is, es, came, u, does, adds, h))
 
     -- sends that stand next to each other and go to one receiver are made
     pub many_made : (to : ℕ) (posts behind : List (Post M)) (es : List (Sender L F)) (end : Sender L F) (b : B) (a : ActsEnd M) (bs : List Bool) (v : Flow L F M B)
@@ -132,6 +133,7 @@ module _ {L F M B : Type 0} where
           h.5,
           h.6,
           h.7,
+          h.8,
         )
       where
         first_or : Post M → List (Post M) → Post M

@@ -14,3 +14,9 @@ pub mod Live
 pub mod Adding
 pub mod Rests
 pub mod Crosses
+pub mod PollerSets
+pub mod PollerCalls
+pub mod OfRun
+pub mod Waiting
+pub mod Fitting
+pub mod Hops

@@ -1,12 +1,12 @@
 -- What is left of a thread that may end, once its ring is closed and its place is ended, is at rest.
-use Rattle.std.proofs.Common.{◌≡◌, List, [], ◌++◌, map, false, sym, ap, subst, ◌∙◌}
+use Rattle.std.proofs.Common.{◌≡◌, ◌<◌, length, List, [], ◌++◌, map, false, sym, ap, subst, ◌∙◌}
 use Rattle.std.specs.Prelude.{Bool}
 use Rattle.std.proofs.lemmas.List.{append-nil}
 use Rattle.lw_base.specs.declared.message.Tag.{Tag}
 use Rattle.lw_ring.specs.Ends.{Sender, Receiver}
 use Rattle.lw_thread.specs.Acts.{Known, Asks, asks_of, no_asks, letters}
 use Rattle.lw_thread.specs.Runs.{IsRow}
-use Rattle.lw_thread.specs.Threads.{Thread, WasRun, IsKept, known, known_of}
+use Rattle.lw_thread.specs.Threads.{Thread, AreAscending, WasRun, IsKept, known, known_of}
 use Rattle.lw_thread.specs.Rest.{Left, IsAtRest}
 use Rattle.lw_thread.specs.Endings.{MayEnd, IsEnded}
 use Rattle.lw_thread.proofs.Live.{none_live}
@@ -35,7 +35,10 @@ module _ {L F M B : Type 0} where
         row = subst (λ (x : List (Sender L F)). IsRow r.recv.family r.seat.thread x) (sym e.same_ends)
             (subst (λ f. IsRow f r.seat.thread t.ends) (sym family) (subst (λ n. IsRow t.recv.family n t.ends) (sym thread) p.ends.row));
         number = ap (λ (x : Receiver L F). x.number) e.recv ∙ p.ends.number ∙ sym thread;
+        senders = ap (λ (x : Receiver L F). x.senders) e.recv ∙ p.ends.senders ∙ ap length (sym e.same_ends);
+        own = subst (λ n. n < length r.ends) (sym thread) (subst (λ (x : List (Sender L F)). t.seat.thread < length x) (sym e.same_ends) p.ends.own);
         load = ap (λ x. x.thread) e.load ∙ p.load ∙ sym thread;
+        trail = subst AreAscending (sym e.trail) p.trail;
         ran = e.ran ∙ log_whole tag_of t.recv.taken t.ran t.left l.all_run p.taken ∙ ap (map tag_of) (sym taken);
         keeps = subst (λ (k : Known L F). lawful k no_asks r.body) is
             (subst (λ (b : B). lawful (known t) no_asks b) (sym e.body) (subst (λ (a : Asks L). lawful (known t) a t.body) (nothing_asked letter t ends e.may l.none_pending) l.keeps));

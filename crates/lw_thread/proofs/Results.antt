@@ -1,5 +1,5 @@
 -- What a poll leaves is kept, and what it did is one poll.
-use Rattle.std.proofs.Common.{◌≡◌, ℕ, ◌<◌, ◌≤◌, Bool, false, List, [], ◌++◌, length, map, take, sym, ap, subst, ◌∙◌, append_assoc, Ok, Err}
+use Rattle.std.proofs.Common.{◌≡◌, ℕ, ◌<◌, ◌≤◌, Bool, true, false, List, [], ◌++◌, length, map, take, sym, ap, subst, ◌∙◌, append_assoc, ⊎_elim, Ok, Err}
 use Rattle.std.specs.Prelude.{is_err, IfOk, IfErr, OnOk, IsSome}
 use Rattle.std.specs.declared.result.Result.{Result}
 use Rattle.std.proofs.lemmas.Bool.{false≢true}
@@ -10,16 +10,18 @@ use Rattle.lw_base.specs.declared.moves.Hop.{Hop}
 use Rattle.lw_latch.specs.RingWord.{most_senders}
 use Rattle.lw_place.specs.PlaceSeats.{ThreadEnd}
 use Rattle.lw_load.specs.LoadEnds.{LoadEnd}
+use Rattle.lw_poller.specs.Pollers.{AreKept}
 use Rattle.lw_ring.specs.Ends.{Sender, Receiver}
 use Rattle.lw_ring.specs.Settling.{all_sent}
 use Rattle.lw_thread.specs.declared.body.Work.{Work}
 use Rattle.lw_thread.specs.declared.stop.Stop.{Stop}
+use Rattle.lw_thread.specs.declared.stop.Stop.TheVariants as stop
 use Rattle.lw_thread.specs.declared.stop.Polled.{Polled}
 use Rattle.lw_thread.specs.Acts.{Known, Asks, ActsEnd, Doing, asks_of}
 use Rattle.lw_thread.specs.Threads.{Thread, AreItsEnds, WasRun, IsKept, IsLawful, known_of}
 use Rattle.lw_thread.specs.Links.{Tied, known_tied}
-use Rattle.lw_thread.specs.Polls.{Polls, Sends}
-use Rattle.lw_thread.specs.Posting.{IsGoing, HasStopped, PollsParts, StopsParts, IsStillTied}
+use Rattle.lw_thread.specs.Polls.{Polls, Sends, Stops, IsStop, Takes}
+use Rattle.lw_thread.specs.Posting.{IsGoing, HasStopped, PollsParts, StopsParts, TookParts, IsStillTied}
 
 -- the thread with these parts
 abbrev pub thread_with : {L F M B : Type 0} → Tied L F → ActsEnd M → B → ThreadEnd → LoadEnd → List Hop → Bool → Thread L F M B
@@ -49,18 +51,18 @@ still_ends {L} {F} thread k l h s =
     }
 
 -- and what was taken is what was run, and what is left
-still_run : {L F : Type 0} (tag_of : L → Tag) (k l : Tied L F) → WasRun tag_of k.recv.taken k.ran k.left → k.left ≡ [] → StopsParts tag_of k l → WasRun tag_of l.recv.taken l.ran l.left
+still_run : {L F : Type 0} (tag_of : L → Tag) (k l : Tied L F) → WasRun tag_of k.recv.taken k.ran k.left → k.left ≡ [] → TookParts tag_of k l → WasRun tag_of l.recv.taken l.ran l.left
 still_run {L} {F} tag_of k l w none s = record {
   run = w.run ++ s.run;
-  parts = ap (λ (r : Receiver L F). r.taken) s.took ∙ (λ i. ((w.parts ∙ ap (λ ls. w.run ++ ls) none ∙ append-nil w.run) i) ++ s.parts i) ∙ sym (append_assoc w.run s.run l.left);
+  parts = s.took ∙ (λ i. ((w.parts ∙ ap (λ ls. w.run ++ ls) none ∙ append-nil w.run) i) ++ s.parts i) ∙ sym (append_assoc w.run s.run l.left);
   tags = s.ran ∙ (λ i. w.tags i ++ map tag_of s.run) ∙ sym (map-append tag_of w.run s.run);
 }
 
 module _ {L F M B : Type 0} (letter : M → L) (tag_of : L → Tag) (fits : ℕ → F → M → Type 0) (lawful : Known L F → Asks L → B → Type 0) where
   -- a thread that goes on is lawful
   going_lawful : (l : Tied L F) (c : ActsEnd M) (d : B) (seat : ThreadEnd) (load : LoadEnd) (trail : List Hop) (stopped : Bool) → l.thread ≡ seat.thread → WasRun tag_of l.recv.taken l.ran l.left
-      → IsGoing letter fits lawful l c d × (c.pending ≡ []) × (c.started ≡ []) × (l.left ≡ []) → IsLawful letter lawful (thread_with l c d seat load trail stopped)
-  going_lawful l c d seat load trail stopped thread w g =
+      → IsGoing letter fits lawful l c d × (c.pending ≡ []) × (c.started ≡ []) × (l.left ≡ []) → AreKept c.pollers → IsLawful letter lawful (thread_with l c d seat load trail stopped)
+  going_lawful l c d seat load trail stopped thread w g pollers =
       let going = g.0 in
       let none = g.3 in
       let run_count = ap length w.tags ∙ length-map w.run tag_of in
@@ -74,44 +76,57 @@ module _ {L F M B : Type 0} (letter : M → L) (tag_of : L → Tag) (fits : ℕ 
         counted = going.of.ran ∙ ap length whole;
         none_pending = g.1;
         none_started = g.2;
+        pollers = pollers;
         keeps = subst (λ (k : Known L F). lawful k (asks_of letter c) d) known going.keeps;
       }
 
   pub polled_kept : (r : Result Polled Stop) (k l : Tied L F) (a c : ActsEnd M) (b d : B) (seat : ThreadEnd) (load : LoadEnd) (trail : List Hop) (was now : Bool) → now ≡ is_err r → was ≡ false → k.thread ≡ seat.thread
       → IsKept letter tag_of lawful (thread_with k a b seat load trail was)
       → OnOk r (IsGoing letter fits lawful l c d × (c.pending ≡ []) × (c.started ≡ []) × (l.left ≡ []))
-      → StopsParts tag_of k l → IsStillTied k l
+      → OnOk r (AreKept c.pollers)
+      → TookParts tag_of k l → IsStillTied k l
       → (l.thread ≡ seat.thread) × IsKept letter tag_of lawful (thread_with l c d seat load trail now)
-  polled_kept r k l a c b d seat load trail was now is goes thread kept ok s still =
+  polled_kept r k l a c b d seat load trail was now is goes thread kept ok pollers s still =
       let w = still_run tag_of k l kept.parts.taken (kept.going goes).all_run s in
       let same = still.thread ∙ thread in (
         same,
         record {
-          parts = record { ends = still_ends seat.thread k l kept.parts.ends still; load = kept.parts.load; place = kept.parts.place; taken = w };
-          going = λ e. lawful_now r ok (sym is ∙ e) w same;
+          parts = record { ends = still_ends seat.thread k l kept.parts.ends still; load = kept.parts.load; place = kept.parts.place; taken = w; trail = kept.parts.trail };
+          going = λ e. lawful_now r ok pollers (sym is ∙ e) w same;
         },
       )
     where
-      lawful_now : (r : Result Polled Stop) → OnOk r (IsGoing letter fits lawful l c d × (c.pending ≡ []) × (c.started ≡ []) × (l.left ≡ [])) → is_err r ≡ false → WasRun tag_of l.recv.taken l.ran l.left → l.thread ≡ seat.thread
+      lawful_now : (r : Result Polled Stop) → OnOk r (IsGoing letter fits lawful l c d × (c.pending ≡ []) × (c.started ≡ []) × (l.left ≡ [])) → OnOk r (AreKept c.pollers) → is_err r ≡ false → WasRun tag_of l.recv.taken l.ran l.left → l.thread ≡ seat.thread
           → IsLawful letter lawful (thread_with l c d seat load trail now)
-      lawful_now (Ok p) ok e w same = going_lawful l c d seat load trail now same w ok
-      lawful_now (Err x) ok e w same = absurd (false≢true (sym e))
+      lawful_now (Ok p) ok pollers e w same = going_lawful l c d seat load trail now same w ok pollers
+      lawful_now (Err x) ok pollers e w same = absurd (false≢true (sym e))
 
-module _ {L F M B : Type 0} (letter : M → L) (tag_of : L → Tag) (marked : L → ℕ → ℕ → L) (runs : L → ℕ → Doing M B → Doing M B → Type 0) (ticks : ℕ → ℕ → Work → Doing M B → Doing M B → Type 0) (takes_back : ℕ → L → Doing M B → Doing M B → Type 0) where
+module _ {L F M B : Type 0} (letter : M → L) (tag_of : L → Tag) (fits : ℕ → F → M → Type 0) (marked : L → ℕ → ℕ → L) (runs : L → ℕ → Doing M B → Doing M B → Type 0) (ticks : ℕ → ℕ → Work → Doing M B → Doing M B → Type 0) (takes_back : ℕ → L → Doing M B → Doing M B → Type 0) where
+  stops_took : (now : ℕ) (k l : Tied L F) (a : ActsEnd M) (b : B) → StopsParts tag_of runs letter fits now k l a b → TookParts tag_of k l
+  stops_took now k l a b s = record {
+    batch = s.batch;
+    took = ⊎_elim
+        (λ (t : Takes letter tag_of fits s.batch k.recv l.recv). ap (λ (r : Receiver L F). r.taken) t.taken)
+        (λ (n : (s.batch ≡ []) × (l.recv ≡ k.recv)). ap (λ (r : Receiver L F). r.taken) n.1 ∙ sym (append-nil k.recv.taken) ∙ ap (λ ls. k.recv.taken ++ ls) (sym n.0))
+        s.took;
+    run = s.done ++ s.last;
+    parts = s.parts;
+    ran = s.ran;
+  }
+
   -- what was taken and run, whether the poll stopped or not
-  pub took_parts : (r : Result Polled Stop) (now : ℕ) (k l : Tied L F) (a c : ActsEnd M) (b d : B) (G : Type 0) → OnOk r G → (G → l.left ≡ []) → IfOk r (λ p. PollsParts letter tag_of marked runs ticks takes_back now k l a c b d p) → IfErr r (λ s. HasStopped l s × StopsParts tag_of k l) → StopsParts tag_of k l
-  took_parts (Ok p) now k l a c b d G ok none polled err = record { batch = polled.batch; few = polled.few; took = polled.took; run = polled.batch; parts = sym (append-nil polled.batch) ∙ ap (λ ls. polled.batch ++ ls) (sym (none ok)); ran = polled.ran }
-  took_parts (Err e) now k l a c b d G ok none polled err = err.1
+  pub took_parts : (r : Result Polled Stop) (now : ℕ) (k l : Tied L F) (a c : ActsEnd M) (b d : B) (G : Type 0) → OnOk r G → (G → l.left ≡ []) → IfOk r (λ p. PollsParts letter tag_of fits marked runs ticks takes_back now k l a c b d p) → IfErr r (λ s. HasStopped l s × StopsParts tag_of runs letter fits now k l a b) → TookParts tag_of k l
+  took_parts (Ok p) now k l a c b d G ok none polled err = record { batch = polled.batch; took = ap (λ (r : Receiver L F). r.taken) polled.took.taken; run = polled.batch; parts = sym (append-nil polled.batch) ∙ ap (λ ls. polled.batch ++ ls) (sym (none ok)); ran = polled.ran }
+  took_parts (Err e) now k l a c b d G ok none polled err = stops_took now k l a b err.1
 
   -- the parts' poll is the thread's
   pub polls_whole : (r : Result Polled Stop) (now : ℕ) (k l : Tied L F) (a c : ActsEnd M) (b d : B) (seat : ThreadEnd) (load : LoadEnd) (trail : List Hop) (was is : Bool) (old : Thread L F M B) → k.thread ≡ seat.thread → thread_with k a b seat load trail was ≡ old
-      → IfOk r (λ p. PollsParts letter tag_of marked runs ticks takes_back now k l a c b d p) → IfOk r (λ p. Polls letter tag_of marked runs ticks takes_back now old (thread_with l c d seat load trail is) p)
+      → IfOk r (λ p. PollsParts letter tag_of fits marked runs ticks takes_back now k l a c b d p) → IfOk r (λ p. Polls letter tag_of fits marked runs ticks takes_back now old (thread_with l c d seat load trail is) p)
   polls_whole (Err e) now k l a c b d seat load trail was is old thread same polled = tt
   polls_whole (Ok p) now k l a c b d seat load trail was is old thread same h =
-      subst (λ (o : Thread L F M B). Polls letter tag_of marked runs ticks takes_back now o (thread_with l c d seat load trail is) p) same
+      subst (λ (o : Thread L F M B). Polls letter tag_of fits marked runs ticks takes_back now o (thread_with l c d seat load trail is) p) same
       (record {
         batch = h.batch;
-        few = h.few;
         took = h.took;
         ran = h.ran;
         after_run = h.after_run;
@@ -132,3 +147,21 @@ module _ {L F M B : Type 0} (letter : M → L) (tag_of : L → Tag) (marked : L 
         acts = h.acts;
         ends = h.ends;
       })
+
+  -- the parts' stop is the thread's
+  pub stops_whole : (now : ℕ) (k l : Tied L F) (a c : ActsEnd M) (b d : B) (seat : ThreadEnd) (load : LoadEnd) (trail : List Hop) (was is : Bool) (old : Thread L F M B) → thread_with k a b seat load trail was ≡ old
+      → StopsParts tag_of runs letter fits now k l a b → Stops letter tag_of fits runs now old (thread_with l c d seat load trail is)
+  stops_whole now k l a c b d seat load trail was is old same h =
+      subst (λ (o : Thread L F M B). Stops letter tag_of fits runs now o (thread_with l c d seat load trail is)) same
+      (record { batch = h.batch; took = h.took; done = h.done; last = h.last; one = h.one; parts = h.parts; whole = h.whole; ran = h.ran; after_run = h.after_run; run_each = h.run_each })
+
+  -- what a stopped poll of the parts shows, the thread shows
+  stop_shown : (l : Tied L F) (c : ActsEnd M) (d : B) (seat : ThreadEnd) (load : LoadEnd) (trail : List Hop) (is : Bool) (s : Stop) → HasStopped l s → IsStop (thread_with l c d seat load trail is) s
+  stop_shown l c d seat load trail is stop.NoMemory h = h
+  stop_shown l c d seat load trail is (stop.Spent to count) h = h
+
+  pub polls_stopped : (r : Result Polled Stop) (now : ℕ) (k l : Tied L F) (a c : ActsEnd M) (b d : B) (seat : ThreadEnd) (load : LoadEnd) (trail : List Hop) (was is : Bool) (old : Thread L F M B) → is ≡ is_err r → thread_with k a b seat load trail was ≡ old
+      → IfErr r (λ s. HasStopped l s × StopsParts tag_of runs letter fits now k l a b)
+      → IfErr r (λ s. (is ≡ true) × IsStop (thread_with l c d seat load trail is) s × Stops letter tag_of fits runs now old (thread_with l c d seat load trail is))
+  polls_stopped (Ok p) now k l a c b d seat load trail was is old e same h = tt
+  polls_stopped (Err s) now k l a c b d seat load trail was is old e same h = (e, stop_shown l c d seat load trail is s h.0, stops_whole now k l a c b d seat load trail was is old same h.1)

@@ -122,7 +122,8 @@ module _ {L F M B : Type 0} (thread : ℕ) (letter : M → L) (marked : L → �
         },
         u,
         subst (λ (x : Post L). takes_back x.to x.what (record { body = b; acts = record a { pending = [] } }) u) (sym one) h.6,
-        sends_same bs u.body u.acts h.3 (u.acts.pending ++ ps) (u.acts.pending ++ h.1) v all h.7,
+        h.7,
+        sends_same bs u.body u.acts h.3 (u.acts.pending ++ ps) (u.acts.pending ++ h.1) v all h.8,
       )
 
   -- one comes back unsent, since its receiver is known to have ended
@@ -140,7 +141,7 @@ module _ {L F M B : Type 0} (thread : ℕ) (letter : M → L) (marked : L → �
       let u : Doing M B = t.done in
       let is : flow_tied l c d ≡ record { body = u.body; acts = record u.acts { pending = u.acts.pending ++ t.rest }; ends = l.ends } = λ i. record { body = t.body i; acts = t.acts i; ends = l.ends } in
       subst (λ (f : Flow L F M B). Went thread letter marked takes_back (done ++ true ∷ []) s f) (sym is)
-      (back_more thread letter marked takes_back done s (flow_tied l a b) p t.rest l.ends u went t.pending back t.does)
+      (back_more thread letter marked takes_back done s (flow_tied l a b) p t.rest l.ends u went t.pending back t.does t.adds)
 
   -- to whom the first go
   pub goes_there : (fits : ℕ → F → M → Type 0) (count : ℕ) (k l : Tied L F) (a c : ActsEnd M) (to : ℕ) (f : SendsFirst letter marked fits count k l a c) → 1 ≤ count → 1 ≤ first_to to a.pending → f.to ≡ to

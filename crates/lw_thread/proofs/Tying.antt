@@ -20,7 +20,8 @@ use Rattle.lw_thread.specs.Calls.{IsToRun}
 use Rattle.lw_thread.specs.Threads.{AreItsEnds, WasRun}
 use Rattle.lw_thread.specs.Runs.{IsRow, IsRowEnd}
 use Rattle.lw_thread.specs.Links.{Tied, AreTied, AreGone, known_tied}
-use Rattle.lw_thread.specs.Polls.{most_taken}
+use Rattle.lw_ring.specs.Calls.{InTurn, EmptyAt}
+use Rattle.lw_thread.specs.Polls.{most_taken, Takes}
 
 pub reverse_twice : {X : Type 0} (xs : List X) → reverse (reverse xs) ≡ xs
 reverse_twice [] = refl
@@ -35,6 +36,15 @@ pub batch_first : {X : Type 0} (xs ys : List X) (x : X) → xs ≡ ys ++ x ∷ [
 batch_first xs ys x e = ap reverse e ∙ reverse-append ys (x ∷ [])
 
 module _ {T L F : Type 0} (letter : T → L) (tag_of : L → Tag) (fits : ℕ → F → T → Type 0) where
+  -- what the ring says of a take is one
+  pub takes_given : (r q : Receiver L F) (given back : List T) → back ≡ reverse given → q ≡ record r { taken = r.taken ++ map letter given; hand = q.hand } → InTurn r.hand (map letter given) q.hand → length given ≤ most_taken
+      → (length given < most_taken → (q.hand ≡ []) × EmptyAt letter tag_of fits q) → (most_taken ≤ length r.hand → r.hand ≡ map letter given ++ q.hand)
+      → Takes letter tag_of fits (map letter (reverse back)) r q
+  takes_given r q given back is taken order few fewer in_hand =
+      let size = length-map given letter in
+      subst (λ xs. Takes letter tag_of fits (map letter xs) r q) (sym (ap reverse is ∙ reverse_twice given))
+      (record { few = omega arith; taken = taken; order = order; fewer = λ l. fewer (omega arith); in_hand = in_hand })
+
   -- a batch is taken
   pub fill_tied : (s : Tied L F) (ran ran2 : Vec Tag Global) (batch batch2 : Vec T Global) (gone : List Bool) (r : Receiver L F) (given : List T)
       → AreTied letter tag_of fits s ran batch gone → s.left ≡ []

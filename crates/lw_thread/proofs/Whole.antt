@@ -8,51 +8,85 @@ use Rattle.std.proofs.Math.ListN.{get_or-append}
 use Rattle.lw_base.specs.declared.message.Tag.{Tag}
 use Rattle.lw_thread.specs.declared.stop.Stop.{Stop}
 use Rattle.lw_thread.specs.declared.stop.Stop.TheVariants as stop
+use Rattle.lw_ring.specs.Ends.{Receiver}
+use Rattle.lw_poller.specs.LocalDue.{begun}
+use Rattle.lw_thread.specs.Acts.{ActsEnd, Doing}
 use Rattle.lw_thread.specs.Links.{Tied, Fills}
-use Rattle.lw_thread.specs.Polls.{Tick, WasBusy}
-use Rattle.lw_thread.specs.Posting.{HasStopped, IsSending, StopsParts}
+use Rattle.lw_thread.specs.Polls.{Takes, Flow, Tick, RunsAll, WasBusy}
+use Rattle.lw_thread.specs.Posting.{HasStopped, IsSending, RanBatch, RunsPart, StopsParts, flow_tied}
 
 -- a stop for want of memory
 pub stopped : {T L F : Type 0} (r : Result T Stop) (l : Tied L F) (Q : Type 0) → IsErrAnd r (λ e. e ≡ stop.NoMemory) → Q → IfErr r (λ s. HasStopped l s × Q)
 stopped (Ok x) l Q h q = tt
 stopped (Err e) l Q h q = (subst (HasStopped l) (sym h) tt, q)
 
-module _ {L F : Type 0} (tag_of : L → Tag) where
+module _ {L F M B : Type 0} (letter : M → L) (tag_of : L → Tag) (fits : ℕ → F → M → Type 0) (runs : L → ℕ → Doing M B → Doing M B → Type 0) where
   -- nothing was taken
-  pub stops_none : (k l : Tied L F) → l ≡ k → k.left ≡ [] → StopsParts tag_of k l
-  stops_none k l same none = record {
+  pub stops_none : (now : ℕ) (k l : Tied L F) (a : ActsEnd M) (b : B) → l ≡ k → k.left ≡ [] → StopsParts tag_of runs letter fits now k l a b
+  stops_none now k l a b same none = record {
     batch = [];
-    few = omega arith;
-    took = ap (λ (t : Tied L F). t.recv) same ∙ (λ i. record k.recv { taken = sym (append-nil k.recv.taken) i; hand = (sym same i).recv.hand });
-    run = [];
+    took = inr (refl, ap (λ (t : Tied L F). t.recv) same);
+    done = [];
+    last = [];
+    one = omega arith;
     parts = sym (ap (λ (t : Tied L F). t.left) same ∙ none);
+    whole = λ e. ap (λ (t : Tied L F). t.left) same ∙ none;
     ran = ap (λ (t : Tied L F). t.ran) same ∙ sym (append-nil k.ran);
+    after_run = flow_tied k (record a { pollers = begun now a.pollers }) b;
+    run_each = refl;
   }
 
-  -- all that was taken was run
-  pub stops_ran : (k l m : Tied L F) → Fills k l → m ≡ record l { ran = l.ran ++ map tag_of l.left; left = [] } → StopsParts tag_of k m
-  stops_ran k l m f noted =
-      let recv : m.recv ≡ l.recv = ap (λ (t : Tied L F). t.recv) noted in
+  -- a handler stopped
+  pub stops_part : (now : ℕ) (k l m : Tied L F) (a a1 : ActsEnd M) (b : B) → Fills letter tag_of fits k l → a1 ≡ record a { pollers = begun now a.pollers } → RunsPart tag_of runs now l m a1 b → StopsParts tag_of runs letter fits now k m a b
+  stops_part now k l m a a1 b f begun_is r =
+      let recv : m.recv ≡ l.recv = ap (λ (t : Tied L F). t.recv) r.noted in
       record {
         batch = l.left;
-        few = f.few;
-        took = recv ∙ f.recv ∙ (λ i. record k.recv { taken = k.recv.taken ++ l.left; hand = (sym recv i).hand });
-        run = l.left;
-        parts = sym (append-nil l.left) ∙ ap (λ ls. l.left ++ ls) (sym (ap (λ (t : Tied L F). t.left) noted));
-        ran = ap (λ (t : Tied L F). t.ran) noted ∙ ap (λ (t : Tied L F). t.ran ++ map tag_of l.left) f.rest;
+        took = inl (subst (λ (q : Receiver L F). Takes letter tag_of fits l.left k.recv q) (sym recv) f.took);
+        done = r.done;
+        last = r.last ∷ [];
+        one = omega arith;
+        parts = r.parts;
+        whole = λ e. absurd (let z = ap length e in omega arith);
+        ran = ap (λ (t : Tied L F). t.ran) r.noted ∙ ap (λ (t : Tied L F). t.ran ++ map tag_of (r.done ++ r.last ∷ [])) f.rest;
+        after_run = r.after_run;
+        run_each = subst (λ (s : Flow L F M B). RunsAll runs now r.done s r.after_run) (λ i. record { body = b; acts = begun_is i; ends = (f.rest i).ends }) r.run_each;
+      }
+
+  -- all that was taken was run
+  pub stops_ran : (now : ℕ) (k l m : Tied L F) (a a1 c : ActsEnd M) (b d : B) (worked : Bool) → Fills letter tag_of fits k l → a1 ≡ record a { pollers = begun now a.pollers } → RanBatch tag_of runs now worked l m a1 c b d → StopsParts tag_of runs letter fits now k m a b
+  stops_ran now k l m a a1 c b d worked f begun_is r =
+      let recv : m.recv ≡ l.recv = ap (λ (t : Tied L F). t.recv) r.noted in
+      let left : m.left ≡ [] = ap (λ (t : Tied L F). t.left) r.noted in
+      record {
+        batch = l.left;
+        took = inl (subst (λ (q : Receiver L F). Takes letter tag_of fits l.left k.recv q) (sym recv) f.took);
+        done = r.run;
+        last = [];
+        one = omega arith;
+        parts = r.all ∙ sym (append-nil r.run) ∙ sym (append-nil (r.run ++ [])) ∙ ap (λ ls. (r.run ++ []) ++ ls) (sym left);
+        whole = λ e. left;
+        ran = ap (λ (t : Tied L F). t.ran) r.noted ∙ (λ i. (f.rest i).ran ++ map tag_of (sym (append-nil r.run) i));
+        after_run = flow_tied m c d;
+        run_each = subst (λ (s : Flow L F M B). RunsAll runs now r.run s (flow_tied m c d)) (λ i. record { body = b; acts = begun_is i; ends = (f.rest i).ends }) r.each;
       }
 
   -- and then some sends were made
-  pub stops_sent : (k l m : Tied L F) → StopsParts tag_of k l → IsSending l m → StopsParts tag_of k m
-  stops_sent k l m s i =
+  pub stops_sent : (now : ℕ) (k l m : Tied L F) (a : ActsEnd M) (b : B) → StopsParts tag_of runs letter fits now k l a b → IsSending l m → StopsParts tag_of runs letter fits now k m a b
+  stops_sent now k l m a b s i =
       let recv : m.recv ≡ l.recv = ap (λ (t : Tied L F). t.recv) i.rest in
+      let left : m.left ≡ l.left = ap (λ (t : Tied L F). t.left) i.rest in
       record {
         batch = s.batch;
-        few = s.few;
-        took = recv ∙ s.took ∙ (λ j. record k.recv { taken = k.recv.taken ++ s.batch; hand = (sym recv j).hand });
-        run = s.run;
-        parts = s.parts ∙ ap (λ ls. s.run ++ ls) (sym (ap (λ (t : Tied L F). t.left) i.rest));
+        took = subst (λ (q : Receiver L F). Takes letter tag_of fits s.batch k.recv q ⊎ ((s.batch ≡ []) × (q ≡ k.recv))) (sym recv) s.took;
+        done = s.done;
+        last = s.last;
+        one = s.one;
+        parts = s.parts ∙ ap (λ ls. (s.done ++ s.last) ++ ls) (sym left);
+        whole = λ e. left ∙ s.whole e;
         ran = ap (λ (t : Tied L F). t.ran) i.rest ∙ s.ran;
+        after_run = s.after_run;
+        run_each = s.run_each;
       }
 
 -- behind the first list stands the second

@@ -8,7 +8,8 @@ use Rattle.lw_thread.specs.declared.ending.Why.TheVariants as why
 use Rattle.lw_thread.specs.declared.ending.Ending.{Ending}
 use Rattle.lw_thread.specs.declared.ending.Ending.TheVariants.{Ended, NotYet}
 use Rattle.lw_thread.specs.Rest.{Left}
-use Rattle.lw_thread.specs.Threads.{Thread}
+use Rattle.lw_thread.specs.Runs.{RunId, IsOf}
+use Rattle.lw_thread.specs.Threads.{Thread, IsThreadOf}
 
 module _ {L F M B : Type 0} (ends : B → Bool) where
   -- what the thread's own state must show before its ring is tried
@@ -43,3 +44,8 @@ module _ {L F M B : Type 0} (ends : B → Bool) where
 abbrev pub EndsAs : {B M L F : Type 0} → (B → Bool) → Thread L F M B → Ending B M L F → Type 0
 EndsAs ends t (Ended r) = IsEnded ends t r
 EndsAs ends t (NotYet u w) = IsNotYet ends t u w
+
+-- what came of the try is of the run: the thread, or what is left of it
+abbrev pub EndsIn : {B M L F : Type 0} → RunId F → Ending B M L F → Type 0
+EndsIn run (Ended r) = IsOf run r.seat r.recv r.ends r.load
+EndsIn run (NotYet u w) = IsThreadOf run u

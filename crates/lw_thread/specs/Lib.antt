@@ -1,5 +1,6 @@
 pub mod Acts
 pub mod Sending
+pub mod PollerChanges
 pub mod Calls
 pub mod Threads
 pub mod Polls
@@ -10,3 +11,4 @@ pub mod Posting
 pub mod Rest
 pub mod Opening
 pub mod Endings
+pub mod Closings

@@ -9,7 +9,7 @@ use Rattle.lw_ring.specs.Queue.{AllFit as AllFitRing}
 use Rattle.lw_ring.specs.Settling.{all_sent}
 use Rattle.lw_thread.specs.Acts.{Known}
 use Rattle.lw_thread.specs.Threads.{AreItsEnds, WasRun}
-use Rattle.lw_thread.specs.Polls.{most_taken}
+use Rattle.lw_thread.specs.Polls.{most_taken, Takes}
 
 pub record Tied (L F : Type 0) : Type 0 where
   pub thread : ℕ
@@ -38,9 +38,8 @@ pub record AreTied {T L F : Type 0} (letter : T → L) (tag_of : L → Tag) (fit
   pub gone_found : AreGone gone t.ends
 
 -- a batch is taken
-pub record Fills {L F : Type 0} (s t : Tied L F) : Type 0 where
-  pub few : length t.left ≤ most_taken
-  pub recv : t.recv ≡ record s.recv { taken = s.recv.taken ++ t.left; hand = t.recv.hand }
+pub record Fills {T L F : Type 0} (letter : T → L) (tag_of : L → Tag) (fits : ℕ → F → T → Type 0) (s t : Tied L F) : Type 0 where
+  pub took : Takes letter tag_of fits t.left s.recv t.recv
   pub rest : t ≡ record s { recv = t.recv; left = t.left }
 
 -- the next message of the batch is run

@@ -2,7 +2,8 @@
 use Rattle.std.specs.Prelude.{◌≡◌, ◌⊎◌, ℕ, ◌+◌, ◌<◌, ◌≤◌, ◌↔◌, Bool, true, false, IsTrue, List, [], ◌∷◌, ◌++◌, length, map, All, Any, slice_index_or, slice_set}
 use Rattle.lw_base.specs.declared.message.Tag.{Tag}
 use Rattle.lw_latch.specs.RingWord.{most_sent}
-use Rattle.lw_ring.specs.Ends.{Sender}
+use Rattle.lw_ring.specs.Ends.{Sender, Receiver}
+use Rattle.lw_ring.specs.Calls.{InTurn, EmptyAt}
 use Rattle.lw_poller.specs.Pollers.{Pollers}
 use Rattle.lw_poller.specs.LocalDue.{begun, IsNextActive, NoneActive, IsNextTimed, NoneDue}
 use Rattle.lw_poller.specs.Changes.{GivesActive, GivesTimed}
@@ -12,11 +13,21 @@ use Rattle.lw_thread.specs.declared.stop.Stop.{Stop}
 use Rattle.lw_thread.specs.declared.stop.Stop.TheVariants as stop
 use Rattle.lw_thread.specs.declared.stop.Polled.{Polled}
 use Rattle.lw_thread.specs.Acts.{Post, ActsEnd, Doing}
+use Rattle.lw_thread.specs.Calls.{Adds}
 use Rattle.lw_thread.specs.Threads.{Thread}
 
 -- how many messages a poll takes at most
 abbrev pub most_taken : ℕ
 most_taken = 8
+
+-- One take of at most 8 messages: those in hand before the others, in turn. Fewer than 8 come only where nothing was left in
+-- hand and at one moment nothing waited.
+pub record Takes {T L F : Type 0} (letter : T → L) (tag_of : L → Tag) (fits : ℕ → F → T → Type 0) (batch : List L) (old new : Receiver L F) : Type 0 where
+  pub few : length batch ≤ most_taken
+  pub taken : new ≡ record old { taken = old.taken ++ batch; hand = new.hand }
+  pub order : InTurn old.hand batch new.hand
+  pub fewer : length batch < most_taken → (new.hand ≡ []) × EmptyAt letter tag_of fits new
+  pub in_hand : most_taken ≤ length old.hand → old.hand ≡ batch ++ new.hand
 
 -- where a poll is: the body, what it asked for, and the thread's ends
 pub record Flow (L F M B : Type 0) : Type 0 where
@@ -28,6 +39,10 @@ pub record Flow (L F M B : Type 0) : Type 0 where
 pub record Tick : Type 0 where
   pub poller : ℕ
   pub work : Work
+
+-- whom a call called
+abbrev pub ticked : Tick → ℕ
+ticked c = c.poller
 
 -- one more message was run
 abbrev pub one_more : {M : Type 0} → ActsEnd M → ActsEnd M
@@ -57,7 +72,9 @@ module _ {L F M B : Type 0} where
   module _ (runs : L → ℕ → Doing M B → Doing M B → Type 0) where
     abbrev pub RunsAll : ℕ → List L → Flow L F M B → Flow L F M B → Type 0
     RunsAll now [] s t = t ≡ s
-    RunsAll now (x ∷ xs) s t = (u : Doing M B) × runs x now (doing s) u × RunsAll now xs (with_doing s (record u { acts = one_more u.acts })) t
+    RunsAll now (x ∷ xs) s t =
+        (u : Doing M B) × runs x now (doing s) u × Adds s.acts u.acts
+        × RunsAll now xs (with_doing s (record u { acts = one_more u.acts })) t
 
   -- The pollers are called, one after the other: each is the next one by the pollers as they are then, and after the last there
   -- is none.
@@ -68,6 +85,7 @@ module _ {L F M B : Type 0} where
         (place : ℕ) × IsNextActive s.acts.pollers place
         × (ps : Pollers) × GivesActive place c.poller s.acts.pollers ps
         × (u : Doing M B) × ticks c.poller now c.work (doing (with_pollers s ps)) u
+        × Adds (with_pollers s ps).acts u.acts
         × TicksActive now cs (with_doing s u) t
 
     abbrev pub TicksTimed : ℕ → List Tick → Flow L F M B → Flow L F M B → Type 0
@@ -76,6 +94,7 @@ module _ {L F M B : Type 0} where
         (place : ℕ) × IsNextTimed s.acts.pollers place
         × (ps : Pollers) × GivesTimed place c.poller s.acts.pollers ps
         × (u : Doing M B) × ticks c.poller now c.work (doing (with_pollers s ps)) u
+        × Adds (with_pollers s ps).acts u.acts
         × TicksTimed now cs (with_doing s u) t
 
   -- The sends are made in order. Each is accepted, or comes back because its receiver has exited; then it goes to the body, and
@@ -109,19 +128,19 @@ module _ {L F M B : Type 0} where
         (p : Post M) × (rest : List (Post M)) × (s.acts.pending ≡ p ∷ rest)
         × (es : List (Sender L F)) × IsReturned p s.ends es
         × (u : Doing M B) × takes_back p.to (letter p.what) (doing (with_pending s [])) u
+        × Adds (with_pending s []).acts u.acts
         × Sends bs (record { body = u.body; acts = record u.acts { pending = u.acts.pending ++ rest }; ends = es }) t
 
 -- a poller that found work
 abbrev pub WasBusy : Tick → Type 0
 WasBusy c = c.work ≡ work.Busy
 
-module _ {L F M B : Type 0} (letter : M → L) (tag_of : L → Tag) (marked : L → ℕ → ℕ → L) (runs : L → ℕ → Doing M B → Doing M B → Type 0) (ticks : ℕ → ℕ → Work → Doing M B → Doing M B → Type 0) (takes_back : ℕ → L → Doing M B → Doing M B → Type 0) where
+module _ {L F M B : Type 0} (letter : M → L) (tag_of : L → Tag) (fits : ℕ → F → M → Type 0) (marked : L → ℕ → ℕ → L) (runs : L → ℕ → Doing M B → Doing M B → Type 0) (ticks : ℕ → ℕ → Work → Doing M B → Doing M B → Type 0) (takes_back : ℕ → L → Doing M B → Doing M B → Type 0) where
   -- one poll at this time: it takes some messages and runs them, calls the active pollers, then the timed ones that are due, and
   -- makes the sends that all of this asked for
   pub record Polls (now : ℕ) (old new : Thread L F M B) (result : Polled) : Type 0 where
     pub batch : List L
-    pub few : length batch ≤ most_taken
-    pub took : new.recv ≡ record old.recv { taken = old.recv.taken ++ batch; hand = new.recv.hand }
+    pub took : Takes letter tag_of fits batch old.recv new.recv
     pub ran : new.ran ≡ old.ran ++ map tag_of batch
     pub after_run : Flow L F M B
     pub active : List Tick
@@ -146,11 +165,17 @@ abbrev pub IsStop : {L F M B : Type 0} → Thread L F M B → Stop → Type 0
 IsStop t stop.NoMemory = Unit {0}
 IsStop {L} {F} t (stop.Spent to count) = (to < length t.ends) × (count ≡ most_sent) × ((d : Sender L F) → length (slice_index_or t.ends to d).sent ≡ count)
 
--- After a Stop: some messages were taken, of which some were run. The rest stays in the thread, behind what was run.
-pub record Stops {L F M B : Type 0} (tag_of : L → Tag) (old new : Thread L F M B) : Type 0 where
-  pub batch : List L
-  pub few : length batch ≤ most_taken
-  pub took : new.recv ≡ record old.recv { taken = old.recv.taken ++ batch; hand = new.recv.hand }
-  pub run : List L
-  pub parts : batch ≡ run ++ new.left
-  pub ran : new.ran ≡ old.ran ++ map tag_of run
+module _ {L F M B : Type 0} (letter : M → L) (tag_of : L → Tag) (fits : ℕ → F → M → Type 0) (runs : L → ℕ → Doing M B → Doing M B → Type 0) where
+  -- After a Stop: messages were taken, if there was memory for the log. Of these the first were run, each to its end; then one,
+  -- whose handler stopped; the rest stays in the thread. Where no handler stopped there is no rest.
+  pub record Stops (now : ℕ) (old new : Thread L F M B) : Type 0 where
+    pub batch : List L
+    pub took : Takes letter tag_of fits batch old.recv new.recv ⊎ ((batch ≡ []) × (new.recv ≡ old.recv))
+    pub done : List L
+    pub last : List L
+    pub one : length last ≤ 1
+    pub parts : batch ≡ (done ++ last) ++ new.left
+    pub whole : last ≡ [] → new.left ≡ []
+    pub ran : new.ran ≡ old.ran ++ map tag_of (done ++ last)
+    pub after_run : Flow L F M B
+    pub run_each : RunsAll runs now done (opened now old) after_run

@@ -10,10 +10,10 @@ use Rattle.lw_thread.specs.declared.stop.Polled.{Polled}
 use Rattle.lw_thread.specs.declared.stop.Stop.{Stop}
 use Rattle.lw_thread.specs.declared.stop.Stop.TheVariants as stop
 use Rattle.lw_thread.specs.Acts.{Known, Asks, Post, ActsEnd, Doing, AllFit, asks_of}
-use Rattle.lw_thread.specs.Calls.{AreOf}
+use Rattle.lw_thread.specs.Calls.{AreOf, Adds}
 use Rattle.lw_thread.specs.Threads.{EndsStill}
 use Rattle.lw_thread.specs.Links.{Tied, known_tied, Grows, FindsClosed, marked_from}
-use Rattle.lw_thread.specs.Polls.{most_taken, Flow, Tick, RunsAll, TicksActive, TicksTimed, Sends, WasBusy}
+use Rattle.lw_thread.specs.Polls.{Takes, Flow, Tick, RunsAll, TicksActive, TicksTimed, Sends, WasBusy}
 
 module _ {L F M B : Type 0} where
   abbrev pub flow_tied : Tied L F → ActsEnd M → B → Flow L F M B
@@ -114,15 +114,23 @@ pub record TakesBack {L M B : Type 0} (letter : M → L) (takes_back : ℕ → L
   pub pending : a.pending ≡ first ∷ rest
   pub done : Doing M B
   pub does : takes_back first.to (letter first.what) (record { body = b; acts = record a { pending = [] } }) done
+  pub adds : Adds (record a { pending = [] }) done.acts
   pub body : d ≡ done.body
   pub acts : c ≡ record done.acts { pending = done.acts.pending ++ rest }
 
+-- all but the first of the sends are still to be made, behind some others
+pub record KeepsOthers {M : Type 0} (old new : ActsEnd M) : Type 0 where
+  pub first : Post M
+  pub rest : List (Post M)
+  pub pending : old.pending ≡ first ∷ rest
+  pub before : List (Post M)
+  pub kept : new.pending ≡ before ++ rest
+
 module _ {L F M B : Type 0} where
   -- a poll, over the thread's parts
-  pub record PollsParts (letter : M → L) (tag_of : L → Tag) (marked : L → ℕ → ℕ → L) (runs : L → ℕ → Doing M B → Doing M B → Type 0) (ticks : ℕ → ℕ → Work → Doing M B → Doing M B → Type 0) (takes_back : ℕ → L → Doing M B → Doing M B → Type 0) (now : ℕ) (k l : Tied L F) (a c : ActsEnd M) (b d : B) (result : Polled) : Type 0 where
+  pub record PollsParts (letter : M → L) (tag_of : L → Tag) (fits : ℕ → F → M → Type 0) (marked : L → ℕ → ℕ → L) (runs : L → ℕ → Doing M B → Doing M B → Type 0) (ticks : ℕ → ℕ → Work → Doing M B → Doing M B → Type 0) (takes_back : ℕ → L → Doing M B → Doing M B → Type 0) (now : ℕ) (k l : Tied L F) (a c : ActsEnd M) (b d : B) (result : Polled) : Type 0 where
     pub batch : List L
-    pub few : length batch ≤ most_taken
-    pub took : l.recv ≡ record k.recv { taken = k.recv.taken ++ batch; hand = l.recv.hand }
+    pub took : Takes letter tag_of fits batch k.recv l.recv
     pub ran : l.ran ≡ k.ran ++ map tag_of batch
     pub after_run : Flow L F M B
     pub active : List Tick
@@ -142,17 +150,33 @@ module _ {L F M B : Type 0} where
     pub acts : c ≡ record last.acts { started = [] }
     pub ends : l.ends ≡ last.ends
 
--- of a batch, some messages were run and the others are left
-pub record RunsPart {L F : Type 0} (tag_of : L → Tag) (k l : Tied L F) : Type 0 where
-  pub run : List L
-  pub parts : k.left ≡ run ++ l.left
-  pub noted : l ≡ record k { ran = k.ran ++ map tag_of run; left = l.left }
+module _ {L F M B : Type 0} (tag_of : L → Tag) (runs : L → ℕ → Doing M B → Doing M B → Type 0) where
+  -- Of a batch, the first messages were run, each to its end, and then one whose handler stopped; the others are left.
+  pub record RunsPart (now : ℕ) (k l : Tied L F) (a : ActsEnd M) (b : B) : Type 0 where
+    pub done : List L
+    pub last : L
+    pub parts : k.left ≡ (done ++ last ∷ []) ++ l.left
+    pub noted : l ≡ record k { ran = k.ran ++ map tag_of (done ++ last ∷ []); left = l.left }
+    pub after_run : Flow L F M B
+    pub run_each : RunsAll runs now done (flow_tied k a b) after_run
+
+  -- a poll that stopped, over the thread's parts
+  pub record StopsParts (letter : M → L) (fits : ℕ → F → M → Type 0) (now : ℕ) (k l : Tied L F) (a : ActsEnd M) (b : B) : Type 0 where
+    pub batch : List L
+    pub took : Takes letter tag_of fits batch k.recv l.recv ⊎ ((batch ≡ []) × (l.recv ≡ k.recv))
+    pub done : List L
+    pub last : List L
+    pub one : length last ≤ 1
+    pub parts : batch ≡ (done ++ last) ++ l.left
+    pub whole : last ≡ [] → l.left ≡ []
+    pub ran : l.ran ≡ k.ran ++ map tag_of (done ++ last)
+    pub after_run : Flow L F M B
+    pub run_each : RunsAll runs now done (flow_tied k (record a { pollers = begun now a.pollers }) b) after_run
 
 -- some messages were taken, of which some were run
-pub record StopsParts {L F : Type 0} (tag_of : L → Tag) (k l : Tied L F) : Type 0 where
+pub record TookParts {L F : Type 0} (tag_of : L → Tag) (k l : Tied L F) : Type 0 where
   pub batch : List L
-  pub few : length batch ≤ most_taken
-  pub took : l.recv ≡ record k.recv { taken = k.recv.taken ++ batch; hand = l.recv.hand }
+  pub took : l.recv.taken ≡ k.recv.taken ++ batch
   pub run : List L
   pub parts : batch ≡ run ++ l.left
   pub ran : l.ran ≡ k.ran ++ map tag_of run

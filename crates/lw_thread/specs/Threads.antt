@@ -6,6 +6,7 @@ use Rattle.lw_base.specs.Words.{greatest_u64}
 use Rattle.lw_latch.specs.RingWord.{most_senders}
 use Rattle.lw_place.specs.declared.place.Place.TheVariants as place
 use Rattle.lw_place.specs.PlaceSeats.{ThreadEnd}
+use Rattle.lw_poller.specs.Pollers.{AreKept}
 use Rattle.lw_ring.specs.Ends.{Sender, Receiver}
 use Rattle.lw_ring.specs.Settling.{all_sent}
 use Rattle.lw_load.specs.LoadEnds.{LoadEnd, published}
@@ -33,6 +34,10 @@ known_of thread recv ends = record { thread = thread; family = recv.family; ran 
 -- the last of these hops, if there is one
 abbrev pub last_of : List Hop → Option Hop
 last_of hs = slice_get hs (length hs - 1)
+
+-- each hop is of a round above that of the one before it
+abbrev pub AreAscending : List Hop → Type 0
+AreAscending hs = (k : ℕ) (d : Hop) → k + 1 < length hs → (slice_index_or hs k d).round < (slice_index_or hs (k + 1) d).round
 
 -- so many ticks more were busy, or idle. The sums stop at the greatest u64
 abbrev pub booked : Bool → ℕ → LoadEnd → LoadEnd
@@ -85,15 +90,17 @@ module _ {L F M B : Type 0} where
     pub load : t.load.thread ≡ t.seat.thread
     pub place : t.seat.place ≢ place.Ended
     pub taken : WasRun tag_of t.recv.taken t.ran t.left
+    pub trail : AreAscending t.trail
 
   -- what it keeps of one that may be polled: all that was taken was run, no send is still to be made, nobody is to be started,
-  -- and the thread is lawful
+  -- its pollers are a set of pollers, and the thread is lawful
   pub record IsLawful (letter : M → L) (lawful : Known L F → Asks L → B → Type 0) (t : Thread L F M B) : Type 0 where
     pub all_run : t.left ≡ []
     pub threads : t.acts.threads ≡ length t.ends
     pub counted : t.acts.ran ≡ length t.recv.taken
     pub none_pending : t.acts.pending ≡ []
     pub none_started : t.acts.started ≡ []
+    pub pollers : AreKept t.acts.pollers
     pub keeps : lawful (known t) (asks_of letter t.acts) t.body
 
   -- both
@@ -102,9 +109,9 @@ module _ {L F M B : Type 0} where
     pub going : t.stopped ≡ false → IsLawful letter lawful t
 
   -- Whose ends, seat and pass it has stays: the rings and the families, the table of the places, the cell of the figures. What
-  -- they have sent and taken, where the thread stands and what is published are another matter.
+  -- they have sent and taken, how often the ring was tried, where the thread stands and what is published are another matter.
   pub record IsStill (old new : Thread L F M B) : Type 0 where
     pub seat : (new.seat.places ≡ old.seat.places) × (new.seat.thread ≡ old.seat.thread)
-    pub recv : new.recv ≡ record old.recv { taken = new.recv.taken; hand = new.recv.hand }
+    pub recv : new.recv ≡ record old.recv { taken = new.recv.taken; hand = new.recv.hand; tries = new.recv.tries; seen = new.recv.seen }
     pub ends : EndsStill old.ends new.ends
     pub load : (new.load.cell ≡ old.load.cell) × (new.load.thread ≡ old.load.thread)

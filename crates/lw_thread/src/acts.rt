@@ -1,10 +1,10 @@
 //! What a body sees and changes in a call.
-ghost use Rattle.std.specs.Prelude.{◌≡◌, ℕ, ◌+◌, ◌<◌, ◌≤◌, ◌↔◌, true, false, List, [], ◌∷◌, ◌++◌, length, All, IsTrue, IfOk, IfErr, IfSome, IfNone, OnOk, OnErr, MatchOption, slice_index_or};
+ghost use Rattle.std.specs.Prelude.{◌≡◌, ℕ, ◌+◌, ◌<◌, ◌≤◌, ◌↔◌, min, true, false, List, [], ◌∷◌, ◌++◌, length, All, IsTrue, IfOk, IfErr, IfSome, IfNone, OnOk, OnErr, MatchOption, slice_index_or};
 ghost use Rattle.lw_latch.specs.RingWord.{above_all_sent};
-ghost use Rattle.lw_poller.specs.Pollers.{live_count};
+ghost use Rattle.lw_poller.specs.Pollers.{AreKept, live_count};
 ghost use Rattle.lw_poller.specs.LocalDue.{begun, IsNextActive, NoneActive, IsNextTimed, NoneDue};
 ghost use Rattle.lw_poller.specs.Changes.{IsLeastFree, IsNotAdded, AddsTimed, Pauses, Resumes, Removes, IsUnknown, GivesActive, GivesTimed, with_active};
-ghost use Rattle.lw_thread.specs.Acts.{IsAsked, blank, no_acts};
+ghost use Rattle.lw_thread.specs.Acts.{IsAsked, Post, blank, no_acts};
 ghost use Rattle.lw_thread.specs.Sending.{first_to, Leads, sends_of, AreSends};
 
 use lw_base::{NoMemory, Tagged, Tick};
@@ -41,6 +41,7 @@ pub struct Acts<M: Tagged + Drop> {
 
 impl<M: Tagged + Drop> Model for Acts<M> {
     ghost use Rattle.std.specs.Prelude.{◌<◌, map, All};
+    ghost use Rattle.lw_latch.specs.RingWord.{above_all_sent};
     ghost use Rattle.lw_thread.specs.Acts.{ActsEnd, AreAsked};
 
     ghost Value = { ActsEnd M };
@@ -56,7 +57,8 @@ impl<M: Tagged + Drop> Model for Acts<M> {
 
     ghost invariant = { λ a.
         AreAsked M.letter M.marked a.threads (map (λ s. record { to = s.to; what = s.message }) a.asked.items)
-        × All (λ n. n < a.threads) a.started.items };
+        × All (λ n. n < a.threads) a.started.items
+        × (a.ran < above_all_sent) };
 }
 
 impl<M: Tagged + Drop> Acts<M> {
@@ -106,7 +108,8 @@ impl<M: Tagged + Drop> Acts<M> {
 
     /// How many messages the thread had run before the present one, fewer than 2^47.
     pub fn ran(&self) -> u64
-        ensures { result ≡ self.now.ran }
+        ensures count { result ≡ self.now.ran }
+        ensures few { self.now.ran < above_all_sent }
     {
         self.ran
     }
@@ -125,9 +128,10 @@ impl<M: Tagged + Drop> Acts<M> {
         self.end
     }
 
-    /// Whether no poller is live.
+    /// Whether no poller is live. What is true of each thread's pollers can be learned by this call.
     pub fn has_no_poller(&self) -> bool
-        ensures { IsTrue result ↔ (live_count self.now.pollers ≡ 0) }
+        ensures none { IsTrue result ↔ (live_count self.now.pollers ≡ 0) }
+        ensures kept { AreKept self.now.pollers }
     {
         self.pollers.is_empty()
     }
@@ -212,7 +216,8 @@ impl<M: Tagged + Drop> Acts<M> {
 
     // A poll of the pollers begins.
     pub(crate) fn begin(&mut self, now: Tick)
-        ensures { self.new ≡ record self.old { pollers = begun now self.old.pollers } }
+        ensures begun { self.new ≡ record self.old { pollers = begun now self.old.pollers } }
+        ensures kept { AreKept self.new.pollers }
     {
         self.pollers.begin(now);
     }
@@ -240,18 +245,27 @@ impl<M: Tagged + Drop> Acts<M> {
 
 // The sends that are still to be made.
 impl<M: Tagged + Drop> Acts<M> {
-    // To whom the first one goes, and how many next to each other go there from it on.
-    pub(crate) fn neighbours(&self) -> Option<(u32, usize)>
+    // To whom the first one goes.
+    pub(crate) fn first_receiver(&self) -> Option<u32>
         ensures { MatchOption result (self.now.pending ≡ [])
-            (λ r. (1 ≤ r.1) × (r.1 ≡ first_to r.0 self.now.pending) × (r.0 < self.now.threads)) }
+            (λ to. (1 ≤ first_to to self.now.pending) × (to < self.now.threads)) }
     {
-        let to = self.asked.front()?.to;
-        for place in 1..self.asked.len() {
+        Some(self.asked.front()?.to)
+    }
+
+    // How many next to each other go to this thread, from the first one on. No more than so many are looked at.
+    pub(crate) fn neighbours(&self, to: u32, most: u64) -> usize
+        ensures { result ≡ min (first_to to self.now.pending) most }
+    {
+        for place in 0..self.asked.len() {
+            if place as u64 == most {
+                return place;
+            }
             if !self.goes_to(place, to) {
-                return Some((to, place));
+                return place;
             }
         }
-        Some((to, self.asked.len()))
+        self.asked.len()
     }
 
     // Whether the send at this place goes to this thread.
@@ -287,29 +301,30 @@ impl<M: Tagged + Drop> Acts<M> {
         mem::replace(&mut self.asked, VecDeque::new(self.alloc))
     }
 
-    // These are to be sent behind all others.
+    // These are to be sent behind all others. They stay where there is no memory; of the others some are dropped then.
     pub(crate) fn put_behind(&mut self, rest: VecDeque<Asked<M>>) -> Result<(), NoMemory>
         requires { AreSends M.letter M.marked self.old.threads rest.items }
-        ensures { OnOk result (self.new ≡ record self.old { pending = self.old.pending ++ sends_of rest.items }) }
+        ensures all { OnOk result (self.new ≡ record self.old { pending = self.old.pending ++ sends_of rest.items }) }
+        ensures kept { (before : List (Post M)) × (self.new ≡ record self.old { pending = before ++ sends_of rest.items }) }
     {
-        let first = mem::replace(&mut self.asked, VecDeque::new(self.alloc));
-        self.asked = put_before(first, rest)?;
-        Ok(())
+        let first = mem::replace(&mut self.asked, rest);
+        put_before(first, &mut self.asked)
     }
 }
 
-// Both, the first before the rest. It moves the first alone, since they are few: of many sends that come back one by one the
-// rest would be moved for each.
-fn put_before<T: Drop>(first: VecDeque<T>, rest: VecDeque<T>) -> Result<VecDeque<T>, NoMemory>
-    ensures { IfOk result (λ all. all.items ≡ first.items ++ rest.items) }
+// Puts the first before the rest. It moves the first alone, since they are few: of many sends that come back one by one the
+// rest would be moved for each. Where there is no memory, the rest stays, with the last of the first before it.
+fn put_before<T: Drop>(first: VecDeque<T>, rest: &mut VecDeque<T>) -> Result<(), NoMemory>
+    ensures all { OnOk result (rest.new.items ≡ first.items ++ rest.old.items) }
+    ensures kept { (dropped : List T) × (put : List T) × (first.items ≡ dropped ++ put)
+        × (rest.new.items ≡ put ++ rest.old.items) }
 {
     let mut first = first;
-    let mut all = rest;
     for _ in 0..first.len() {
         let Some(item) = first.pop_back() else {
             unreachable!()
         };
-        all.push_front(item)?;
+        rest.push_front(item)?;
     }
-    Ok(all)
+    Ok(())
 }

@@ -1,6 +1,7 @@
 //! What a light thread does.
 ghost use Rattle.std.specs.Prelude.{◌≡◌, ℕ, ◌<◌, ◌↔◌, List, [], ◌∷◌, ◌++◌, length, IsTrue, IfOk, OnOk};
 ghost use Rattle.lw_base.specs.Letters.{list_at};
+ghost use Rattle.lw_poller.specs.Pollers.{times};
 ghost use Rattle.lw_thread.specs.Acts.{Known, Asks, Post, Doing, AllFit, asks_of, letters, and_run, and_sent};
 ghost use Rattle.lw_thread.specs.Calls.{AreOf, IsToRun, IsBack, Adds};
 
@@ -9,10 +10,12 @@ use lw_base::{NoMemory, Tagged, Tick};
 use lw_poller::PollerId;
 use std::sync::Wait;
 
-/// Whether a poller found work.
+/// Whether a poller found work. A poll in which one did has worked.
 #[derive(Drop, Clone, Copy, PartialEq, Eq, Debug)]
 pub enum Work {
+    /// It found some.
     Busy,
+    /// It found none.
     Idle,
 }
 
@@ -33,6 +36,8 @@ impl Work {
 /// `lawful` is what a body keeps between its calls: of what its thread has run and sent, what it has under way, and itself. Each
 /// call keeps it, for every list of messages for which it held. After a call that answers `NoMemory` nothing is said of the body,
 /// and its thread isn't polled again.
+///
+/// Each call gets the acts of its thread, and may change them by their calls alone.
 pub trait Body: Drop + Send {
     ghost use Rattle.std.specs.Prelude.{ℕ, Bool, List};
     ghost use Rattle.lw_thread.specs.declared.body.Work.{Work};
@@ -79,7 +84,7 @@ pub trait Body: Drop + Send {
         ensures does { OnOk result (runs (Self.Message.letter message) now
             (record { body = self.old; acts = acts.old }) (record { body = self.new; acts = acts.new })) };
 
-    /// A poller is called. What it asks to send is sent behind all that is still to be sent.
+    /// A poller is called, which is live. What it asks to send is sent behind all that is still to be sent.
     fn tick<R: Wait>(
         &mut self,
         rt: &R,
@@ -87,7 +92,8 @@ pub trait Body: Drop + Send {
         now: Tick,
         acts: &mut Acts<Self::Message>,
     ) -> Result<Work, NoMemory>
-        requires { (k : Known Self.Message.Letter Self.Message.Family) × AreOf k acts.old
+        requires live { times poller.0 acts.old.pollers ≡ 1 }
+        requires called { (k : Known Self.Message.Letter Self.Message.Family) × AreOf k acts.old
             × lawful k (asks_of Self.Message.letter acts.old) self.old }
         ensures lawful { OnOk result ((k : Known Self.Message.Letter Self.Message.Family) → AreOf k acts.old
             → lawful k (asks_of Self.Message.letter acts.old) self.old
@@ -102,7 +108,8 @@ pub trait Body: Drop + Send {
     /// A message comes back, since the thread that it was to go to has ended. No other send is to be seen in `acts`; what this
     /// call asks to send is sent before all others.
     ///
-    /// Its tag has 0 for its sender and its number.
+    /// Its tag has 0 for its sender and its number. After `NoMemory` the sends that were asked for before are still to be made;
+    /// of those that this call asked for some may be dropped.
     fn returned<R: Wait>(
         &mut self,
         rt: &R,
@@ -112,13 +119,13 @@ pub trait Body: Drop + Send {
     ) -> Result<(), NoMemory>
         requires none { acts.old.pending ≡ [] }
         requires called { (k : Known Self.Message.Letter Self.Message.Family) × (rest : List (Post Self.Message.Letter))
-            × AreOf k acts.old × IsBack Self.Message.fits k to message
+            × AreOf k acts.old × IsBack Self.Message.letter Self.Message.marked Self.Message.fits k to message
             × lawful k (record {
               live = (asks_of Self.Message.letter acts.old).live;
               pending = record { to = to; what = Self.Message.letter message } ∷ rest;
             }) self.old }
         ensures lawful { OnOk result ((k : Known Self.Message.Letter Self.Message.Family)
-            (rest : List (Post Self.Message.Letter)) → AreOf k acts.old → IsBack Self.Message.fits k to message
+            (rest : List (Post Self.Message.Letter)) → AreOf k acts.old → IsBack Self.Message.letter Self.Message.marked Self.Message.fits k to message
             → lawful k (record {
               live = (asks_of Self.Message.letter acts.old).live;
               pending = record { to = to; what = Self.Message.letter message } ∷ rest;
@@ -128,8 +135,9 @@ pub trait Body: Drop + Send {
               pending = letters Self.Message.letter acts.new.pending ++ rest;
             }) self.new) }
         ensures adds { OnOk result (Adds acts.old acts.new) }
+        ensures threads { acts.new.threads ≡ acts.old.threads }
         ensures fits { OnOk result ((k : Known Self.Message.Letter Self.Message.Family)
-            (rest : List (Post Self.Message.Letter)) → AreOf k acts.old → IsBack Self.Message.fits k to message
+            (rest : List (Post Self.Message.Letter)) → AreOf k acts.old → IsBack Self.Message.letter Self.Message.marked Self.Message.fits k to message
             → lawful k (record {
               live = (asks_of Self.Message.letter acts.old).live;
               pending = record { to = to; what = Self.Message.letter message } ∷ rest;

@@ -1,9 +1,7 @@
 //! How a light thread ends.
 use crate::body::Body;
-use crate::links::Links;
 use crate::remains::Remains;
 use crate::thread::LightThread;
-use lw_ring::Closing;
 
 /// Why a thread hasn't ended: the first of these that it shows.
 #[derive(Clone, Copy, PartialEq, Eq, Debug)]
@@ -30,7 +28,7 @@ pub enum Ending<B: Body> {
 impl<B: Body> LightThread<B> {
     ghost use Rattle.std.specs.Prelude.{◌≡◌, false};
     ghost use Rattle.lw_place.specs.PlaceSeats.{IsList};
-    ghost use Rattle.lw_thread.specs.Endings.{EndsAs, MayEnd};
+    ghost use Rattle.lw_thread.specs.Endings.{EndsAs};
 
     /// Ends the thread, where its end was asked for, no poller is live, the body may end and its ring closes. It closes only where
     /// every message ever sent to it was taken, and then none is ever sent to it again. In the same call its place becomes that
@@ -52,67 +50,5 @@ impl<B: Body> LightThread<B> {
             return Ending::NotYet(self, Why::Body);
         }
         self.close()
-    }
-
-    // Closes the ring of a thread that may end.
-    fn close(self) -> Ending<B>
-        requires place { IsList self.seat.place }
-        requires going { self.stopped ≡ false }
-        requires may { MayEnd B.ends self }
-        ensures { EndsAs B.ends self result }
-    {
-        let LightThread {
-            alloc,
-            body,
-            acts,
-            links,
-            mut seat,
-            load,
-            trail,
-            stopped,
-        } = self;
-        let Links {
-            thread,
-            mut recv,
-            ends,
-            ran,
-            batch,
-            gone,
-        } = links;
-        match recv.close() {
-            Closing::Closed => {
-                seat.end();
-                Ending::Ended(Remains {
-                    body,
-                    recv,
-                    ends,
-                    seat,
-                    load,
-                    ran,
-                    trail,
-                })
-            }
-            Closing::NotYet { seen } => {
-                let links = Links {
-                    thread,
-                    recv,
-                    ends,
-                    ran,
-                    batch,
-                    gone,
-                };
-                let same = LightThread {
-                    alloc,
-                    body,
-                    acts,
-                    links,
-                    seat,
-                    load,
-                    trail,
-                    stopped,
-                };
-                Ending::NotYet(same, Why::Ring { seen })
-            }
-        }
     }
 }

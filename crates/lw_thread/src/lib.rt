@@ -8,7 +8,9 @@
 
 mod acts;
 mod body;
+mod closing;
 mod ending;
+mod laws;
 mod links;
 mod opening;
 mod polling;
@@ -20,6 +22,7 @@ mod thread;
 pub use acts::{Acts, Asked};
 pub use body::{Body, Work};
 pub use ending::{Ending, Why};
+pub use laws::{a_removed_poller_is_not_called, a_thread_stays_of_its_run};
 pub use lw_base::Hop;
 pub use lw_poller::{PollerId, PollerRefusal};
 pub use opening::Opened;

@@ -87,7 +87,7 @@ impl<M: Tagged + Drop> Links<M> {
     // Takes a batch, where the last one was run. The log gets room for it first, by doubling.
     pub(crate) fn fill<R: Wait>(&mut self, rt: &R) -> Result<(), NoMemory>
         requires { self.old.left ≡ [] }
-        ensures ok { OnOk result (Fills self.old self.new) }
+        ensures ok { OnOk result (Fills M.letter M.tag_of M.fits self.old self.new) }
         ensures known { OnOk result (known_tied self.new ≡ known_tied self.old) }
         ensures same { OnErr result (self.new ≡ self.old) }
     {

@@ -9,6 +9,7 @@ use lw_ring::{RecvEnd, SendEnd};
 /// The parts of `Remains`.
 #[derive(Drop)]
 pub struct Opened<B: Body> {
+    /// The body, which may end.
     pub body: B,
     /// The receiving end, which is closed.
     pub recv: RecvEnd<B::Message>,
@@ -16,6 +17,7 @@ pub struct Opened<B: Body> {
     pub ends: Vec<SendEnd<B::Message>>,
     /// The seat, which stands at the place of an ended thread.
     pub seat: ThreadSeat,
+    /// The load pass, with the figures that it published last.
     pub load: LoadPass,
     /// The tags of all messages that it ran, in order.
     pub ran: Vec<Tag>,

@@ -1,5 +1,6 @@
 //! One poll of a light thread, over its parts.
-ghost use Rattle.std.specs.Prelude.{◌≡◌, ◌≤◌, [], length, IfOk, IfErr, OnOk};
+ghost use Rattle.std.specs.Prelude.{◌≡◌, ◌≤◌, [], length, IfOk, IfErr, OnOk, OnErr};
+ghost use Rattle.lw_poller.specs.Pollers.{AreKept};
 ghost use Rattle.lw_thread.specs.Polls.{most_taken};
 ghost use Rattle.lw_thread.specs.Posting.{IsGoing, HasStopped, RanBatch, RunsPart, CalledActive, CalledTimed, PollsParts, StopsParts, IsStillTied};
 
@@ -25,9 +26,11 @@ pub(crate) fn poll_parts<B: Body, R: Wait>(
     requires rest { (acts.old.pending ≡ []) × (acts.old.started ≡ []) × (links.old.left ≡ []) }
     ensures going { OnOk result (IsGoing B.Message.letter B.Message.fits B.lawful links.new acts.new body.new
         × (acts.new.pending ≡ []) × (acts.new.started ≡ []) × (links.new.left ≡ [])) }
-    ensures polled { IfOk result (λ p. PollsParts B.Message.letter B.Message.tag_of B.Message.marked B.runs B.ticks B.takes_back
-        now links.old links.new acts.old acts.new body.old body.new p) }
-    ensures stop { IfErr result (λ s. HasStopped links.new s × StopsParts B.Message.tag_of links.old links.new) }
+    ensures kept { OnOk result (AreKept acts.new.pollers) }
+    ensures polled { IfOk result (λ p. PollsParts B.Message.letter B.Message.tag_of B.Message.fits B.Message.marked B.runs B.ticks
+        B.takes_back now links.old links.new acts.old acts.new body.old body.new p) }
+    ensures stop { IfErr result (λ s. HasStopped links.new s × StopsParts B.Message.tag_of B.runs B.Message.letter
+        B.Message.fits now links.old links.new acts.old body.old) }
     ensures still { IsStillTied links.old links.new }
 {
     acts.begin(now);
@@ -57,7 +60,7 @@ fn run_batch<B: Body, R: Wait>(
     ensures going { OnOk result (IsGoing B.Message.letter B.Message.fits B.lawful links.new acts.new body.new) }
     ensures ran { IfOk result (λ worked. RanBatch B.Message.tag_of B.runs now worked links.old links.new acts.old acts.new
         body.old body.new) }
-    ensures part { RunsPart B.Message.tag_of links.old links.new }
+    ensures part { OnErr result (RunsPart B.Message.tag_of B.runs now links.old links.new acts.old body.old) }
 {
     let mut ran = false;
     for _ in 0..MOST_TAKEN {
@@ -79,6 +82,7 @@ fn call_active<B: Body, R: Wait>(
     acts: &mut Acts<B::Message>,
     links: &Links<B::Message>,
 ) -> Result<bool, NoMemory>
+    requires kept { AreKept acts.old.pollers }
     requires going { IsGoing B.Message.letter B.Message.fits B.lawful links.now acts.old body.old }
     ensures going { OnOk result (IsGoing B.Message.letter B.Message.fits B.lawful links.now acts.new body.new) }
     ensures called { IfOk result (λ busy. CalledActive B.ticks now busy links.now acts.old acts.new body.old body.new) }
@@ -102,6 +106,7 @@ fn call_timed<B: Body, R: Wait>(
     acts: &mut Acts<B::Message>,
     links: &Links<B::Message>,
 ) -> Result<bool, NoMemory>
+    requires kept { AreKept acts.old.pollers }
     requires going { IsGoing B.Message.letter B.Message.fits B.lawful links.now acts.old body.old }
     ensures going { OnOk result (IsGoing B.Message.letter B.Message.fits B.lawful links.now acts.new body.new) }
     ensures called { IfOk result (λ busy. CalledTimed B.ticks now busy links.now acts.old acts.new body.old body.new) }

@@ -6,7 +6,8 @@ use lw_place::ThreadSeat;
 use lw_ring::{RecvEnd, SendEnd};
 use std::marker::Model;
 
-/// What is left of a light thread that has ended. `open` gives its parts, with what they keep.
+/// What is left of a light thread that has ended. Its number, what it has run and its moves can be read; `open` gives its parts,
+/// with what they keep.
 #[derive(Drop)]
 pub struct Remains<B: Body> {
     pub(crate) body: B,
@@ -42,4 +43,31 @@ impl<B: Body> Model for Remains<B> {
       ran = r.ran.items;
       trail = r.trail.items;
     }) };
+}
+
+impl<B: Body> Remains<B> {
+    ghost use Rattle.std.specs.Prelude.{◌≡◌};
+    ghost use Rattle.lw_thread.specs.Rest.{IsAtRest};
+
+    /// The thread's number. What all remains keep can be learned by this call.
+    pub fn number(&self) -> u32
+        ensures number { result ≡ self.now.seat.thread }
+        ensures kept { IsAtRest B.Message.tag_of B.lawful B.ends self.now }
+    {
+        self.seat.thread()
+    }
+
+    /// The tags of all messages that the thread ran, in order.
+    pub fn ran(&self) -> &[Tag]
+        ensures { result.now ≡ self.now.ran }
+    {
+        self.ran.as_slice()
+    }
+
+    /// The thread's moves, in order.
+    pub fn trail(&self) -> &[Hop]
+        ensures { result.now ≡ self.now.trail }
+    {
+        self.trail.as_slice()
+    }
 }

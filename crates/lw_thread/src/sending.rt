@@ -2,13 +2,13 @@
 //!
 //! They are made in order; those that stand next to each other and go to one thread go in one run. What comes back, since that
 //! thread has ended, goes to the body message by message, and what that asks for is sent first.
-ghost use Rattle.std.specs.Prelude.{◌≡◌, ◌≢◌, ◌+◌, ◌<◌, ◌≤◌, [], length, All, IfErr, OnOk, slice_index_or, vec_capacity};
+ghost use Rattle.std.specs.Prelude.{◌≡◌, ◌≢◌, ◌+◌, ◌<◌, ◌≤◌, ℕ, [], length, All, IfErr, OnOk, slice_index_or, vec_capacity};
 ghost use Rattle.lw_base.specs.Letters.{FitsRing};
 ghost use Rattle.lw_latch.specs.RingWord.{most_sent};
 ghost use Rattle.lw_ring.specs.Calls.{NamedFrom};
 ghost use Rattle.lw_thread.specs.Acts.{AllFit};
 ghost use Rattle.lw_thread.specs.Sending.{first_to};
-ghost use Rattle.lw_thread.specs.Posting.{Posts, IsGoing, IsSending, HasStopped, Gathers, PutsFirst, SendsFirst, TakesBack};
+ghost use Rattle.lw_thread.specs.Posting.{Posts, IsGoing, IsSending, HasStopped, Gathers, PutsFirst, SendsFirst, TakesBack, KeepsOthers};
 
 use crate::acts::{Acts, Asked};
 use crate::body::Body;
@@ -36,21 +36,46 @@ pub(crate) fn send_all<B: Body, R: Wait>(
     ensures stop { IfErr result (HasStopped links.new) }
 {
     for _ in rt.forever() {
-        let Some((to, count)) = acts.neighbours() else {
+        let Some(to) = acts.first_receiver() else {
             return Ok(());
         };
         if links.is_gone(to) {
             hand_back(rt, body, acts, &*links)?;
-        } else if count == 1 || links.room(to) < count as u64 {
-            send_one(rt, acts, links)?;
         } else {
-            send_some(rt, alloc, to, count, acts, links)?;
+            send_on(rt, alloc, to, acts, links)?;
         }
     }
     unreachable!()
 }
 
-// The first send is not made, since its receiver has ended: its message goes to the body.
+// Makes the first send, and those next to it that go to the same thread, in one run as far as the end has room. What comes back
+// is the first again.
+fn send_on<M: Tagged + Drop, R: Wait>(
+    rt: &R,
+    alloc: Global,
+    to: u32,
+    acts: &mut Acts<M>,
+    links: &mut Links<M>,
+) -> Result<(), Stop>
+    requires to { 1 ≤ first_to to acts.old.pending }
+    requires in_range { to < length links.old.ends }
+    requires threads { acts.old.threads ≡ length links.old.ends }
+    requires fits { AllFit M.fits links.old.recv.family acts.old.pending }
+    ensures ok { OnOk result ((count : ℕ) × (1 ≤ count)
+        × SendsFirst M.letter M.marked M.fits count links.old links.new acts.old acts.new) }
+    ensures same { IsSending links.old links.new }
+    ensures stop { IfErr result (HasStopped links.new) }
+{
+    let count = acts.neighbours(to, links.room(to));
+    if count < 2 {
+        send_one(rt, acts, links)
+    } else {
+        send_some(rt, alloc, to, count, acts, links)
+    }
+}
+
+// The first send is not made, since its receiver has ended: its message goes to the body. Whether the body took it or not, the
+// other sends are still to be made, behind those that it asked for. Where there is no memory for these, some are dropped.
 fn hand_back<B: Body, R: Wait>(
     rt: &R,
     body: &mut B,
@@ -61,13 +86,15 @@ fn hand_back<B: Body, R: Wait>(
     requires going { IsGoing B.Message.letter B.Message.fits B.lawful links.now acts.old body.old }
     ensures going { OnOk result (IsGoing B.Message.letter B.Message.fits B.lawful links.now acts.new body.new) }
     ensures back { OnOk result (TakesBack B.Message.letter B.takes_back acts.old acts.new body.old body.new) }
+    ensures kept { KeepsOthers acts.old acts.new }
 {
     let Some(Asked { to, message }) = acts.next_send() else {
         unreachable!()
     };
     let rest = acts.set_aside();
-    body.returned(rt, to, message, acts)?;
-    acts.put_behind(rest)
+    let outcome = body.returned(rt, to, message, acts);
+    acts.put_behind(rest)?;
+    outcome
 }
 
 // Makes the first send. Where the message comes back, it is the first again.

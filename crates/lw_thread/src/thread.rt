@@ -1,8 +1,9 @@
 //! A light thread.
-ghost use Rattle.std.specs.Prelude.{◌≡◌, ◌≢◌, ℕ, ◌+◌, ◌<◌, ◌≤◌, true, false, [], ◌∷◌, ◌++◌, length, All, IfOk, IfErr, OnOk, OnErr, slice_index_or};
+ghost use Rattle.std.specs.Prelude.{◌≡◌, ◌≢◌, ℕ, ◌+◌, ◌<◌, ◌≤◌, ◌↔◌, true, false, [], ◌∷◌, ◌++◌, length, All, IsTrue, IfOk, IfErr, OnOk, OnErr, slice_index_or};
 ghost use Rattle.lw_place.specs.PlaceSeats.{IsEvent, IsHeld, MayLeave};
 ghost use Rattle.lw_poller.specs.Changes.{IsLeastFree, IsNotAdded, with_active};
 ghost use Rattle.lw_thread.specs.Acts.{asks_of, no_acts, no_asks};
+ghost use Rattle.lw_thread.specs.Endings.{MayEnd};
 ghost use Rattle.lw_thread.specs.Threads.{AreItsEnds, HasParts, IsAbove, IsLawful, IsStill, booked, known, known_of, last_of};
 
 use crate::acts::Acts;
@@ -142,22 +143,33 @@ impl<B: Body> LightThread<B> {
         }) }
         ensures cause { IfErr result (λ e. IsNotAdded self.old.acts.pollers e) }
         ensures same { OnErr result (self.new ≡ self.old) }
+        ensures still { IsStill self.old self.new }
     {
         self.acts.add_active()
     }
 
     /// Asks for the end of the thread, as its body may do.
     pub fn ask_end(&mut self)
-        ensures { self.new ≡ record self.old { acts = record self.old.acts { asked_end = true } } }
+        ensures asked { self.new ≡ record self.old { acts = record self.old.acts { asked_end = true } } }
+        ensures still { IsStill self.old self.new }
     {
         self.acts.ask_end();
+    }
+
+    /// Whether the thread may end, as far as it depends on itself: its end was asked for, no poller is live, and the body may
+    /// end. Then `try_end` tries its ring.
+    pub fn may_end(&self) -> bool
+        ensures { IsTrue result ↔ MayEnd B.ends self.now }
+    {
+        self.acts.asked_end() && self.acts.has_no_poller() && self.body.may_end()
     }
 
     /// The thread leaves for a reactor. It isn't held.
     pub fn leave_for(&mut self, to: u32)
         requires place { MayLeave self.old.seat.place }
         requires range { to < self.old.seat.places.reactors }
-        ensures { self.new ≡ record self.old { seat = record self.old.seat { place = Place.Event to } } }
+        ensures left { self.new ≡ record self.old { seat = record self.old.seat { place = Place.Event to } } }
+        ensures still { IsStill self.old self.new }
     {
         self.seat.leave_for(to);
     }
@@ -165,8 +177,9 @@ impl<B: Body> LightThread<B> {
     /// The thread arrives, out of an event.
     pub fn arrive(&mut self)
         requires { IsEvent self.old.seat.place }
-        ensures { (reactor : ℕ) → self.old.seat.place ≡ Place.Event reactor →
+        ensures arrived { (reactor : ℕ) → self.old.seat.place ≡ Place.Event reactor →
             self.new ≡ record self.old { seat = record self.old.seat { place = Place.List reactor } } }
+        ensures still { IsStill self.old self.new }
     {
         self.seat.arrive();
     }
@@ -174,8 +187,9 @@ impl<B: Body> LightThread<B> {
     /// The thread, which is held, starts.
     pub fn start(&mut self)
         requires { IsHeld self.old.seat.place }
-        ensures { (reactor : ℕ) → self.old.seat.place ≡ Place.Held reactor →
+        ensures started { (reactor : ℕ) → self.old.seat.place ≡ Place.Held reactor →
             self.new ≡ record self.old { seat = record self.old.seat { place = Place.List reactor } } }
+        ensures still { IsStill self.old self.new }
     {
         self.seat.start();
     }
@@ -192,6 +206,7 @@ impl<B: Body> LightThread<B> {
         requires { IsAbove hop.round (last_of self.old.trail) }
         ensures ok { OnOk result (self.new ≡ record self.old { trail = self.old.trail ++ hop ∷ [] }) }
         ensures same { OnErr result (self.new ≡ self.old) }
+        ensures still { IsStill self.old self.new }
     {
         self.trail.push(hop)?;
         Ok(())
@@ -208,7 +223,8 @@ impl<B: Body> LightThread<B> {
     /// Books so many ticks, as busy where the thread worked and as idle where it didn't, and publishes both sums. They stop at
     /// the greatest u64.
     pub fn book<R: Wait>(&mut self, rt: &R, worked: bool, ticks: Tick)
-        ensures { self.new ≡ record self.old { load = booked worked ticks self.old.load } }
+        ensures booked { self.new ≡ record self.old { load = booked worked ticks self.old.load } }
+        ensures still { IsStill self.old self.new }
     {
         let last = self.load.last();
         if worked {
@@ -254,15 +270,17 @@ impl<B: Body> LightThread<B> {
     /// and makes the sends that all of this asked for.
     ///
     /// `Stop` is `Spent` only where the end that it names has sent 2^40. After a Stop what was taken and not run stays in the
-    /// thread; nothing is said of the body, nor of the sends that weren't made, and the thread isn't polled again. A poll in
-    /// which nothing comes and nothing is sent takes no memory but that the log may get room.
+    /// thread; nothing is said of the body, nor of the sends that weren't made, and the thread isn't polled again. Of those sends
+    /// `Spent` drops none; `NoMemory` drops that one for which there was no memory, or the run of them that goes to one thread,
+    /// or what `Body::returned` asked for last, and keeps the others. A poll in which nothing comes and nothing is sent takes no
+    /// memory but that the log may get room.
     pub fn poll<R: Wait>(&mut self, rt: &R, now: Tick) -> Result<Polled, Stop>
         requires { self.old.stopped ≡ false }
         ensures going { OnOk result (self.new.stopped ≡ false) }
-        ensures polled { IfOk result (λ p. Polls B.Message.letter B.Message.tag_of B.Message.marked B.runs B.ticks B.takes_back
-            now self.old self.new p) }
+        ensures polled { IfOk result (λ p. Polls B.Message.letter B.Message.tag_of B.Message.fits B.Message.marked B.runs B.ticks
+            B.takes_back now self.old self.new p) }
         ensures stopped { IfErr result (λ s. (self.new.stopped ≡ true) × IsStop self.new s
-            × Stops B.Message.tag_of self.old self.new) }
+            × Stops B.Message.letter B.Message.tag_of B.Message.fits B.runs now self.old self.new) }
         ensures still { IsStill self.old self.new }
         ensures rest { (self.new.seat ≡ self.old.seat) × (self.new.load ≡ self.old.load)
             × (self.new.trail ≡ self.old.trail) }

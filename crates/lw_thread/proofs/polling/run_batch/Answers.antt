@@ -2,18 +2,18 @@ use Rattle.std.proofs.Common.{[], ◌∷◌, ◌++◌, length, refl, ap, ◌∙�
 use Rattle.std.proofs.lemmas.List.{length_push}
 use Rattle.lw_thread.specs.Links.{Tied}
 use Rattle.lw_thread.specs.Posting.{flow_tied}
-use Rattle.lw_thread.proofs.Calling.{going_run, part_left, part_noted, run_step, taken_count}
+use Rattle.lw_thread.proofs.Calling.{going_run, on_error, part_left, part_run, part_noted, run_step, taken_count}
 use Rattle.lw_thread.proofs.polling.run_batch.Goals as goal
 
 pub returns-in_err-run-clause-part : goal.returns-in_err-run-clause-part
 returns-in_err-run-clause-part g c =
     let i = c.loop.invariant in
     let x = g.B.Message.Tagged.letter c.in-Some.message in
-    record {
-      run = i.run ++ x ∷ [];
-      parts = part_left g.B.Message.Tagged.tag_of c.args.links.now c.loop.links c.next.new.self i.run x i.parts c.in-Some.ensures.next;
-      noted = part_noted g.B.Message.Tagged.tag_of c.args.links.now c.loop.links c.next.new.self i.run x i.noted c.in-Some.ensures.next;
-    }
+    on_error c.from_residual.result
+    (part_run g.B.Message.Tagged.tag_of g.B.Body.runs c.args.now i.run x c.args.links.now c.loop.links c.next.new.self c.args.acts.now c.loop.acts c.args.body.now c.loop.body
+    (part_left g.B.Message.Tagged.tag_of c.args.links.now c.loop.links c.next.new.self i.run x i.parts c.in-Some.ensures.next)
+    (part_noted g.B.Message.Tagged.tag_of c.args.links.now c.loop.links c.next.new.self i.run x i.noted c.in-Some.ensures.next)
+    i.each)
 
 pub count_run-requires : goal.count_run-requires
 count_run-requires g c =
@@ -37,7 +37,7 @@ loop-preserved g c =
       going = going_run g.B.Message.Tagged.letter g.B.Message.Tagged.fits g.B.Body.lawful g.B.Message.Tagged.tag_of c.loop.links c.next.new.self c.loop.acts c.run.new.acts c.count_run.new.self c.loop.body c.run.new.self c.in-Some.message i.going n.next n.known n.fits t.lawful t.adds t.fits c.count_run.ensures;
       run = i.run ++ x ∷ [];
       parts = part_left g.B.Message.Tagged.tag_of c.args.links.now c.loop.links c.next.new.self i.run x i.parts n.next;
-      each = run_step g.B.Body.runs g.B.Message.Tagged.tag_of c.args.now i.run x (flow_tied c.args.links.now c.args.acts.now c.args.body.now) c.loop.links c.next.new.self c.loop.acts c.run.new.acts c.count_run.new.self c.loop.body c.run.new.self i.each n.next t.does c.count_run.ensures;
+      each = run_step g.B.Body.runs g.B.Message.Tagged.tag_of c.args.now i.run x (flow_tied c.args.links.now c.args.acts.now c.args.body.now) c.loop.links c.next.new.self c.loop.acts c.run.new.acts c.count_run.new.self c.loop.body c.run.new.self i.each n.next t.does t.adds c.count_run.ensures;
       noted = part_noted g.B.Message.Tagged.tag_of c.args.links.now c.loop.links c.next.new.self i.run x i.noted n.next;
       worked = ((λ _. omega arith), λ _. refl);
       turns = omega arith;

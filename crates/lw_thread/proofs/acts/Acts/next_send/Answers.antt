@@ -5,7 +5,7 @@ use Rattle.lw_thread.proofs.Asking.{asked_rest, asked_first}
 use Rattle.lw_thread.proofs.acts.Acts.next_send.Goals as goal
 
 pub invariant_of-self : goal.invariant_of-self
-invariant_of-self g c = (asked_rest g.M.Tagged.letter g.M.Tagged.marked c.self.inside.threads c.self.inside.asked.items c.pop_front.result c.pop_front.new.self.items c.pop_front.ensures.items c.self.invariant.0, c.self.invariant.1)
+invariant_of-self g c = (asked_rest g.M.Tagged.letter g.M.Tagged.marked c.self.inside.threads c.self.inside.asked.items c.pop_front.result c.pop_front.new.self.items c.pop_front.ensures.items c.self.invariant.0, c.self.invariant.1, c.self.invariant.2)
 
 pub returns-clause-kept : goal.returns-clause-kept
 returns-clause-kept g c =

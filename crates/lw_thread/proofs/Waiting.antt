@@ -1,4 +1,4 @@
--- A thread that hasn't ended stands where it stood.
+-- A thread that hasn't ended is as it was, but for what its ring's latch noted. For whoever polls threads.
 use Rattle.std.proofs.Common.{◌≡◌, Bool, false, ap, ◌∙◌, subst, sym}
 use Rattle.lw_place.specs.PlaceSeats.{IsList}
 use Rattle.lw_thread.specs.declared.ending.Why.{Why}
@@ -7,13 +7,13 @@ use Rattle.lw_thread.specs.Endings.{IsNotYet}
 use Rattle.lw_thread.specs.Threads.{Thread}
 
 module _ {L F M B : Type 0} (ends : B → Bool) where
-  same_seat : (t u : Thread L F M B) (w : Why) → IsNotYet ends t u w → u.seat ≡ t.seat
+  pub same_seat : (t u : Thread L F M B) (w : Why) → IsNotYet ends t u w → u.seat ≡ t.seat
   same_seat t u why.NotAsked h = ap (λ (x : Thread L F M B). x.seat) h.1
   same_seat t u why.Pollers h = ap (λ (x : Thread L F M B). x.seat) h.2
   same_seat t u why.Body h = ap (λ (x : Thread L F M B). x.seat) h.3
   same_seat t u (why.Ring seen) h = ap (λ (x : Thread L F M B). x.seat) h.2
 
-  same_stopped : (t u : Thread L F M B) (w : Why) → IsNotYet ends t u w → u.stopped ≡ t.stopped
+  pub same_stopped : (t u : Thread L F M B) (w : Why) → IsNotYet ends t u w → u.stopped ≡ t.stopped
   same_stopped t u why.NotAsked h = ap (λ (x : Thread L F M B). x.stopped) h.1
   same_stopped t u why.Pollers h = ap (λ (x : Thread L F M B). x.stopped) h.2
   same_stopped t u why.Body h = ap (λ (x : Thread L F M B). x.stopped) h.3
