@@ -1,0 +1,4 @@
+pub mod Measuring
+pub mod Rounding
+pub mod Noting
+pub mod Planning
