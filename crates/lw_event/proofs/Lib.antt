@@ -1,0 +1,10 @@
+pub mod Waking
+pub mod Equipped
+pub mod Dealt
+pub mod Keeping
+pub mod Naming
+pub mod Sending
+pub mod Begun
+pub mod Left
+pub mod Staying
+pub mod Both

@@ -1,0 +1,9 @@
+pub mod Letters
+pub mod Events
+pub mod Desks
+pub mod Calls
+pub mod Making
+pub mod Leaving
+pub mod Regrouping
+pub mod SleepRule
+pub mod Sleepers
