@@ -123,6 +123,7 @@ impl<T: Tagged + Drop> SendEnd<T> {
     /// sent, and as `Exited` only where this call's own step found the ring's latch closed. After an `Exited` this end
     /// sends nothing more. `NoMemory` is for want of a block of the queue, which has room for 31 messages or runs. The message
     /// names this end and the number that comes next, and fits the ring.
+    #[inline(always)]
     pub fn send<R: Wait>(&mut self, rt: &R, value: T) -> Result<(), SendRefusal<T>>
         requires names { Names (T.tag_of (T.letter value)) self.old.sender (length self.old.sent) }
         requires fits { FitsRing T.fits self.old.number self.old.family value }
@@ -191,6 +192,7 @@ impl<T: Tagged + Drop> SendEnd<T> {
 }
 
 // A parcel goes to the back of the queue.
+#[inline(always)]
 fn push<T: Tagged + Drop, R: Wait>(
     rt: &R,
     queue: &Queue<T>,

@@ -202,11 +202,11 @@ fn fill<T: Tagged + Drop, R: Wait>(
     ensures empty { length batch.new.items < max →
         Saw T.letter T.tag_of T.fits pass.new.me.view.client [] }
 {
-    if batch.len() < max && is_empty(queue, pass) {
-        return;
-    }
     for _ in rt.forever() {
         if batch.len() >= max {
+            return;
+        }
+        if is_empty(queue, pass) {
             return;
         }
         match pop(rt, queue, pass) {
@@ -235,6 +235,7 @@ impl<T: Tagged + Drop> RecvEnd<T> {
     ///
     /// That a waiting message is taken is shown by tests alone: a look at an empty queue, which is two loads, leaves no mark
     /// that a clause could name.
+    #[inline(always)]
     pub fn take_into<R: Wait>(&mut self, rt: &R, max: usize, batch: &mut Vec<T>)
         requires room { (batch.old.items ≡ []) × (max ≤ vec_capacity batch.old) }
         requires not_closed { self.old.closed ≡ 0 }

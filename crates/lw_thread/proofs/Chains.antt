@@ -1,24 +1,63 @@
 -- The chains of a poll grow at their end.
-use Rattle.std.proofs.Common.{◌≡◌, ℕ, ◌+◌, ◌<◌, ◌≤◌, Bool, true, false, List, [], ◌∷◌, ◌++◌, length, map, refl, sym, ap, subst, ◌∙◌, arith, append_assoc, All, length-set}
+use Rattle.std.proofs.Common.{◌≡◌, ℕ, ◌+◌, ◌<◌, ◌≤◌, Bool, true, false, List, [], ◌∷◌, ◌++◌, length, map, refl, sym, ap, subst, ◌∙◌, arith, append_assoc, All, length-set, get_or-set_same, get_or-set_other, Option, Some, None, ◌≢◌}
 use Rattle.std.specs.Prelude.{slice_index_or, slice_set}
 use Rattle.std.proofs.lemmas.List.{append-nil, length_push}
 use Rattle.std.proofs.lemmas.List.Elements.{All-head, All-tail}
+use Rattle.std.proofs.Math.Logic.{dite}
+use native.Mathlib.Decide.{ℕ_discrete}
 use Rattle.lw_latch.specs.RingWord.{most_sent}
 use Rattle.lw_ring.specs.Ends.{Sender}
 use Rattle.lw_poller.specs.Pollers.{Pollers}
 use Rattle.lw_poller.specs.LocalDue.{IsNextActive, IsNextTimed}
 use Rattle.lw_poller.specs.Changes.{GivesActive, GivesTimed}
 use Rattle.lw_thread.specs.declared.body.Work.{Work}
+use Rattle.lw_thread.specs.declared.stop.Stop.{Stop}
+use Rattle.lw_thread.specs.declared.stop.Stop.TheVariants as stop
 use Rattle.lw_thread.specs.Acts.{Post, ActsEnd, Doing}
 use Rattle.lw_thread.specs.Calls.{Adds}
 use Rattle.lw_thread.specs.Links.{marked_from}
-use Rattle.lw_thread.specs.Polls.{Flow, Tick, RunsAll, TicksActive, TicksTimed, Sends, IsReturned, doing, with_doing, with_pollers, with_pending, one_more}
+use Rattle.lw_thread.specs.Polls.{Flow, Tick, RunsAll, TicksActive, TicksTimed, SendsUntil, FindMore, IsReturned, doing, with_doing, with_pollers, with_pending, one_more}
 use Rattle.lw_thread.proofs.Counting.{set_same, set_twice, at_set_here}
 
 -- as many sends as these were accepted
 abbrev pub accepted : {M : Type 0} → List (Post M) → List Bool
 accepted [] = []
 accepted (p ∷ ps) = false ∷ accepted ps
+
+-- one end has found its ring closed more often
+pub find_set : {L F : Type 0} (es : List (Sender L F)) (to : ℕ) (end : Sender L F) (n : ℕ) → ((d : Sender L F) → slice_index_or es to d ≡ end) → end.found ≤ n → FindMore es (slice_set es to (record end { found = n }))
+find_set {L} {F} es to end n at more =
+    let e2 : Sender L F = record end { found = n } in (
+      length-set es to e2,
+      λ k d within. dite (ℕ_discrete k to)
+          (λ (is : k ≡ to).
+          (let was : slice_index_or es k d ≡ end = ap (λ i. slice_index_or es i d) is ∙ at d in
+          let less = ap (λ (e : Sender L F). e.found) was in (
+            n,
+            omega arith,
+            ap (λ i. slice_index_or (slice_set es to e2) i d) is ∙ get_or-set_same es to e2 d (subst (λ i. i < length es) is within) ∙ (λ i. record (sym was i) { found = n }),
+          )))
+          (λ (other : k ≢ to). ((slice_index_or es k d).found, omega arith, get_or-set_other es to k e2 d other)),
+    )
+
+pub find_none : {L F : Type 0} (es : List (Sender L F)) → FindMore es es
+find_none {L} {F} es = (refl, λ k d within. ((slice_index_or es k d).found, omega arith, refl))
+
+-- one after the other
+find_both : {L F : Type 0} (es fs gs : List (Sender L F)) → FindMore es fs → FindMore fs gs → FindMore es gs
+find_both {L} {F} es fs gs a b = (
+  b.0 ∙ a.0,
+  λ k d within.
+      (let one = a.1 k d within in
+      let two = b.1 k d (subst (λ n. k < n) (sym a.0) within) in
+      let less = ap (λ (e : Sender L F). e.found) one.2 in
+      let more = one.1 in
+      let most = two.1 in (
+        two.0,
+        omega arith,
+        two.2 ∙ ap (λ (e : Sender L F). record e { found = two.0 }) one.2,
+      )),
+)
 
 module _ {L F M B : Type 0} where
   -- one message more is run
@@ -51,26 +90,26 @@ module _ {L F M B : Type 0} where
 
   module _ (thread : ℕ) (letter : M → L) (marked : L → ℕ → ℕ → L) (takes_back : ℕ → L → Doing M B → Doing M B → Type 0) where
     abbrev pub Went : List Bool → Flow L F M B → Flow L F M B → Type 0
-    Went done s t = (bs : List Bool) (v : Flow L F M B) → Sends thread letter marked takes_back bs t v → Sends thread letter marked takes_back (done ++ bs) s v
+    Went done s t = (why : Option Stop) (bs : List Bool) (v : Flow L F M B) → SendsUntil thread letter marked takes_back why bs t v → SendsUntil thread letter marked takes_back why (done ++ bs) s v
 
     pub none_went : (s : Flow L F M B) → Went [] s s
-    none_went s = λ bs v h. h
+    none_went s = λ why bs v h. h
 
     -- one send comes back, and the body takes it
     pub back_more : (done : List Bool) (s t : Flow L F M B) (p : Post M) (rest : List (Post M)) (es : List (Sender L F)) (u : Doing M B)
         → Went done s t → t.acts.pending ≡ p ∷ rest → IsReturned thread letter marked takes_back p t.ends es → takes_back p.to (letter p.what) (doing (with_pending t [])) u → Adds (with_pending t []).acts u.acts
         → Went (done ++ true ∷ []) s (record { body = u.body; acts = record u.acts { pending = u.acts.pending ++ rest }; ends = es })
-    back_more done s t p rest es u went is came does adds = λ bs v h. subst (λ l. Sends thread letter marked takes_back l s v) (sym (append_assoc done (true ∷ []) bs)) (went (true ∷ bs) v (p, rest, is, es, came, u, does, adds, h))
+    back_more done s t p rest es u went is came does adds = λ why bs v h. subst (λ l. SendsUntil thread letter marked takes_back why l s v) (sym (append_assoc done (true ∷ []) bs)) (went why (true ∷ bs) v (p, rest, is, es, came, u, does, adds, h))
 
     -- sends that stand next to each other and go to one receiver are made
-    pub many_made : (to : ℕ) (posts behind : List (Post M)) (es : List (Sender L F)) (end : Sender L F) (b : B) (a : ActsEnd M) (bs : List Bool) (v : Flow L F M B)
+    pub many_made : (why : Option Stop) (to : ℕ) (posts behind : List (Post M)) (es : List (Sender L F)) (end : Sender L F) (b : B) (a : ActsEnd M) (bs : List Bool) (v : Flow L F M B)
         → to < length es → ((d : Sender L F) → slice_index_or es to d ≡ end) → end.found ≡ 0 → length end.sent + length posts ≤ most_sent → All (λ (p : Post M). p.to ≡ to) posts
-        → Sends thread letter marked takes_back bs (record { body = b; acts = record a { pending = behind }; ends = slice_set es to (record end { sent = end.sent ++ marked_from marked thread (length end.sent) (map (λ (p : Post M). letter p.what) posts) }) }) v
-        → Sends thread letter marked takes_back (accepted posts ++ bs) (record { body = b; acts = record a { pending = posts ++ behind }; ends = es }) v
-    many_made to [] behind es end b a bs v within at free room all h =
+        → SendsUntil thread letter marked takes_back why bs (record { body = b; acts = record a { pending = behind }; ends = slice_set es to (record end { sent = end.sent ++ marked_from marked thread (length end.sent) (map (λ (p : Post M). letter p.what) posts) }) }) v
+        → SendsUntil thread letter marked takes_back why (accepted posts ++ bs) (record { body = b; acts = record a { pending = posts ++ behind }; ends = es }) v
+    many_made why to [] behind es end b a bs v within at free room all h =
         let same : slice_set es to (record end { sent = end.sent ++ [] }) ≡ es = ap (λ ls. slice_set es to (record end { sent = ls })) (append-nil end.sent) ∙ set_same es to end at in
-        subst (λ (l : List (Sender L F)). Sends thread letter marked takes_back bs (record { body = b; acts = record a { pending = behind }; ends = l }) v) same h
-    many_made to (p ∷ ps) behind es end b a bs v within at free room all h =
+        subst (λ (l : List (Sender L F)). SendsUntil thread letter marked takes_back why bs (record { body = b; acts = record a { pending = behind }; ends = l }) v) same h
+    many_made why to (p ∷ ps) behind es end b a bs v within at free room all h =
         let P = λ (q : Post M). q.to ≡ to in
         let here = All-head P p ps all in
         let x = marked (letter p.what) thread (length end.sent) in
@@ -82,8 +121,8 @@ module _ {L F M B : Type 0} where
         ap (λ n. end1.sent ++ marked_from marked thread n (map (λ (q : Post M). letter q.what) ps)) long ∙ append_assoc end.sent (x ∷ []) more in
         let ends : slice_set es1 to (record end1 { sent = end1.sent ++ marked_from marked thread (length end1.sent) (map (λ (q : Post M). letter q.what) ps) }) ≡ slice_set es to (record end { sent = end.sent ++ x ∷ more }) =
         set_twice es to end1 _ ∙ ap (λ ls. slice_set es to (record end { sent = ls })) letters in
-        let rest = many_made to ps behind es1 end1 b a bs v (within_set within) (λ d. at_set_here es to end1 d within) free (omega arith) (All-tail P p ps all)
-        (subst (λ (l : List (Sender L F)). Sends thread letter marked takes_back bs (record { body = b; acts = record a { pending = behind }; ends = l }) v) (sym ends) h) in (
+        let rest = many_made why to ps behind es1 end1 b a bs v (within_set within) (λ d. at_set_here es to end1 d within) free (omega arith) (All-tail P p ps all)
+        (subst (λ (l : List (Sender L F)). SendsUntil thread letter marked takes_back why bs (record { body = b; acts = record a { pending = behind }; ends = l }) v) (sym ends) h) in (
           p,
           ps ++ behind,
           refl,
@@ -96,12 +135,16 @@ module _ {L F M B : Type 0} where
         within_set l = subst (λ n. to < n) (sym (length-set es to _)) l
 
     -- an end has found its ring closed, and the first send goes there: the sends are those from before it had
-    pub found_before : (to n : ℕ) (es : List (Sender L F)) (end : Sender L F) (p : Post M) (rest : List (Post M)) (b : B) (a : ActsEnd M) (bs : List Bool) (v : Flow L F M B)
+    pub found_before : (why : Option Stop) (to n : ℕ) (es : List (Sender L F)) (end : Sender L F) (p : Post M) (rest : List (Post M)) (b : B) (a : ActsEnd M) (bs : List Bool) (v : Flow L F M B)
         → to < length es → ((d : Sender L F) → slice_index_or es to d ≡ end) → end.found ≤ n → 1 ≤ n → a.pending ≡ p ∷ rest → p.to ≡ to
-        → Sends thread letter marked takes_back bs (record { body = b; acts = a; ends = slice_set es to (record end { found = n }) }) v
-        → Sends thread letter marked takes_back bs (record { body = b; acts = a; ends = es }) v
-    found_before to n es end p rest b a [] v within at more some is here h = absurd (let l = ap length (sym is ∙ h.0) in omega arith)
-    found_before to n es end p rest b a (false ∷ bs) v within at more some is here h =
+        → SendsUntil thread letter marked takes_back why bs (record { body = b; acts = a; ends = slice_set es to (record end { found = n }) }) v
+        → SendsUntil thread letter marked takes_back why bs (record { body = b; acts = a; ends = es }) v
+    found_before None to n es end p rest b a [] v within at more some is here h = absurd (let l = ap length (sym is ∙ h.0) in omega arith)
+    found_before (Some stop.NoMemory) to n es end p rest b a [] v within at more some is here h =
+        record { to = h.to; next = h.next; rest = h.rest; pending = h.pending; its_end = h.its_end; before = h.before; unsent = h.unsent; ends = find_both es (slice_set es to (record end { found = n })) v.ends (find_set es to end n at more) h.ends }
+    found_before (Some (stop.Spent t c)) to n es end p rest b a [] v within at more some is here h =
+        record { next = h.next; rest = h.rest; pending = h.pending; its_end = h.its_end; unsent = h.unsent; body = h.body; acts = h.acts; ends = find_both es (slice_set es to (record end { found = n })) v.ends (find_set es to end n at more) h.ends }
+    found_before why to n es end p rest b a (false ∷ bs) v within at more some is here h =
         let q = h.0 in
         let k = h.4 in
         absurd (not_open (ap (λ (l : List (Post M)). first_or q l) (sym is ∙ h.2)) k.to k.not_exited)
@@ -117,7 +160,7 @@ module _ {L F M B : Type 0} where
             let it : record end { found = n } ≡ e = sym there ∙ ap (λ i. slice_index_or (slice_set es to (record end { found = n })) i end) (sym mine) ∙ told end in
             let f = ap (λ (x : Sender L F). x.found) it in
             omega arith
-    found_before to n es end p rest b a (true ∷ bs) v within at more some is here h =
+    found_before why to n es end p rest b a (true ∷ bs) v within at more some is here h =
         let q = h.0 in
         let r = h.4 in
         let mine : q.to ≡ to = ap (λ (x : Post M). x.to) (sym (ap (λ (l : List (Post M)). first_or q l) (sym is ∙ h.2))) ∙ here in

@@ -6,6 +6,7 @@ pub mod Backs
 pub mod Making
 pub mod Kept
 pub mod Sent
+pub mod Waits
 pub mod Going
 pub mod Whole
 pub mod Results

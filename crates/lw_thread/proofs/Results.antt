@@ -1,5 +1,5 @@
 -- What a poll leaves is kept, and what it did is one poll.
-use Rattle.std.proofs.Common.{◌≡◌, ℕ, ◌<◌, ◌≤◌, Bool, true, false, List, [], ◌++◌, length, map, take, sym, ap, subst, ◌∙◌, append_assoc, ⊎_elim, Ok, Err}
+use Rattle.std.proofs.Common.{◌≡◌, ℕ, ◌<◌, ◌≤◌, Bool, true, false, List, [], ◌++◌, length, map, take, sym, ap, subst, ◌∙◌, append_assoc, ⊎_elim, Ok, Err, inl, inr, Some}
 use Rattle.std.specs.Prelude.{is_err, IfOk, IfErr, OnOk, IsSome}
 use Rattle.std.specs.declared.result.Result.{Result}
 use Rattle.std.proofs.lemmas.Bool.{false≢true}
@@ -20,8 +20,8 @@ use Rattle.lw_thread.specs.declared.stop.Polled.{Polled}
 use Rattle.lw_thread.specs.Acts.{Known, Asks, ActsEnd, Doing, asks_of}
 use Rattle.lw_thread.specs.Threads.{Thread, AreItsEnds, WasRun, IsKept, IsLawful, known_of}
 use Rattle.lw_thread.specs.Links.{Tied, known_tied}
-use Rattle.lw_thread.specs.Polls.{Polls, Sends, Stops, IsStop, Takes}
-use Rattle.lw_thread.specs.Posting.{IsGoing, HasStopped, PollsParts, StopsParts, TookParts, IsStillTied}
+use Rattle.lw_thread.specs.Polls.{Polls, Sends, SendsUntil, Stops, IsStop, PollsUntil, CameTo, Takes}
+use Rattle.lw_thread.specs.Posting.{IsGoing, HasStopped, PollsParts, StopsParts, PartsUntil, CameToParts, TookParts, IsStillTied}
 
 -- the thread with these parts
 abbrev pub thread_with : {L F M B : Type 0} → Tied L F → ActsEnd M → B → ThreadEnd → LoadEnd → List Hop → Bool → Thread L F M B
@@ -147,6 +147,38 @@ module _ {L F M B : Type 0} (letter : M → L) (tag_of : L → Tag) (fits : ℕ 
         acts = h.acts;
         ends = h.ends;
       })
+
+  -- how far the parts came is how far the thread came
+  until_whole : (why : Stop) (now : ℕ) (k l : Tied L F) (a c : ActsEnd M) (b d : B) (seat : ThreadEnd) (load : LoadEnd) (trail : List Hop) (was is : Bool) → k.thread ≡ seat.thread → PartsUntil letter tag_of fits marked runs ticks takes_back now k l a c b d why
+      → PollsUntil letter tag_of fits marked runs ticks takes_back now (thread_with k a b seat load trail was) (thread_with l c d seat load trail is) why
+  until_whole why now k l a c b d seat load trail was is thread h = record {
+    batch = h.batch;
+    took = h.took;
+    ran = h.ran;
+    none_left = h.none_left;
+    after_run = h.after_run;
+    active = h.active;
+    after_active = h.after_active;
+    timed = h.timed;
+    after_timed = h.after_timed;
+    returned = h.returned;
+    run_each = h.run_each;
+    call_active = h.call_active;
+    call_timed = h.call_timed;
+    send_some = subst (λ t. SendsUntil t letter marked takes_back (Some why) h.returned h.after_timed (record { body = d; acts = c; ends = l.ends })) thread h.send_some;
+  }
+
+  came_whole : (why : Stop) (now : ℕ) (k l : Tied L F) (a c : ActsEnd M) (b d : B) (seat : ThreadEnd) (load : LoadEnd) (trail : List Hop) (was is : Bool) → k.thread ≡ seat.thread → CameToParts letter tag_of fits marked runs ticks takes_back now k l a c b d why
+      → CameTo letter tag_of fits marked runs ticks takes_back now (thread_with k a b seat load trail was) (thread_with l c d seat load trail is) why
+  came_whole stop.NoMemory now k l a c b d seat load trail was is thread (inl same) = inl same
+  came_whole stop.NoMemory now k l a c b d seat load trail was is thread (inr h) = inr (until_whole stop.NoMemory now k l a c b d seat load trail was is thread h)
+  came_whole (stop.Spent to count) now k l a c b d seat load trail was is thread h = until_whole (stop.Spent to count) now k l a c b d seat load trail was is thread h
+
+  pub polls_came : (r : Result Polled Stop) (now : ℕ) (k l : Tied L F) (a c : ActsEnd M) (b d : B) (seat : ThreadEnd) (load : LoadEnd) (trail : List Hop) (was is : Bool) (old : Thread L F M B) → k.thread ≡ seat.thread → thread_with k a b seat load trail was ≡ old
+      → IfErr r (CameToParts letter tag_of fits marked runs ticks takes_back now k l a c b d) → IfErr r (CameTo letter tag_of fits marked runs ticks takes_back now old (thread_with l c d seat load trail is))
+  polls_came (Ok p) now k l a c b d seat load trail was is old thread same h = tt
+  polls_came (Err why) now k l a c b d seat load trail was is old thread same h =
+      subst (λ (o : Thread L F M B). CameTo letter tag_of fits marked runs ticks takes_back now o (thread_with l c d seat load trail is) why) same (came_whole why now k l a c b d seat load trail was is thread h)
 
   -- the parts' stop is the thread's
   pub stops_whole : (now : ℕ) (k l : Tied L F) (a c : ActsEnd M) (b d : B) (seat : ThreadEnd) (load : LoadEnd) (trail : List Hop) (was is : Bool) (old : Thread L F M B) → thread_with k a b seat load trail was ≡ old

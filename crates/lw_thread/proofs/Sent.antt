@@ -1,5 +1,5 @@
 -- The chain of sends grows by a send, a run or what comes back.
-use Rattle.std.proofs.Common.{◌≡◌, ℕ, ◌+◌, ◌<◌, ◌≤◌, Bool, true, false, List, [], ◌∷◌, ◌++◌, length, map, refl, sym, ap, subst, ◌∙◌, arith, append_assoc, All, inl, inr}
+use Rattle.std.proofs.Common.{◌≡◌, ℕ, ◌+◌, ◌<◌, ◌≤◌, Bool, true, false, List, [], ◌∷◌, ◌++◌, length, map, refl, sym, ap, subst, ◌∙◌, arith, append_assoc, All, inl, inr, Option, Some, None}
 use Rattle.std.specs.Prelude.{slice_index_or, slice_set, ◌⊎◌}
 use Rattle.std.proofs.lemmas.List.{map-append, length-map, get_or_default, nil_from_length}
 use Rattle.std.proofs.lemmas.List.Elements.{All-head, All-tail}
@@ -7,7 +7,9 @@ use Rattle.lw_ring.specs.Ends.{Sender}
 use Rattle.lw_thread.specs.Acts.{Post, ActsEnd, Doing, letters}
 use Rattle.lw_thread.specs.Sending.{first_to}
 use Rattle.lw_thread.specs.Links.{Tied, marked_from}
-use Rattle.lw_thread.specs.Polls.{Flow, Sends, IsReturned}
+use Rattle.lw_thread.specs.declared.stop.Stop.{Stop}
+use Rattle.lw_thread.specs.declared.stop.Stop.TheVariants as stop
+use Rattle.lw_thread.specs.Polls.{Flow, SendsUntil, IsReturned}
 use Rattle.lw_thread.specs.Posting.{IsSending, TakesBack, SendsFirst, AreMade, ComeBack, flow_tied}
 use Rattle.lw_thread.proofs.Chains.{Went, accepted, back_more, many_made, found_before}
 use Rattle.lw_thread.proofs.Counting.{set_same}
@@ -67,14 +69,20 @@ module _ {L F M B : Type 0} (thread : ℕ) (letter : M → L) (marked : L → �
   flow b a es ps = record { body = b; acts = record a { pending = ps }; ends = es }
 
   -- The sends depend on the letters alone.
-  pub sends_same : (bs : List Bool) (b : B) (a : ActsEnd M) (es : List (Sender L F)) (ps qs : List (Post M)) (v : Flow L F M B) → letters letter ps ≡ letters letter qs
-      → Sends thread letter marked takes_back bs (flow b a es qs) v → Sends thread letter marked takes_back bs (flow b a es ps) v
-  sends_same [] b a es ps qs v e h =
+  pub sends_same : (why : Option Stop) (bs : List Bool) (b : B) (a : ActsEnd M) (es : List (Sender L F)) (ps qs : List (Post M)) (v : Flow L F M B) → letters letter ps ≡ letters letter qs
+      → SendsUntil thread letter marked takes_back why bs (flow b a es qs) v → SendsUntil thread letter marked takes_back why bs (flow b a es ps) v
+  sends_same None [] b a es ps qs v e h =
       let none : ps ≡ [] = none_same letter ps qs e h.0 in
       (none, h.1 ∙ ap (λ l. flow b a es l) (h.0 ∙ sym none))
-  sends_same (false ∷ bs) b a es [] qs v e h = absurd (some_same letter qs h.1 h.0 e h.2)
-  sends_same (true ∷ bs) b a es [] qs v e h = absurd (some_same letter qs h.1 h.0 e h.2)
-  sends_same (false ∷ bs) b a es (p ∷ ps) qs v e h =
+  sends_same (Some stop.NoMemory) [] b a es ps qs v e h = record { to = h.to; next = h.next; rest = h.rest; pending = e ∙ h.pending; its_end = h.its_end; before = h.before; unsent = h.unsent; ends = h.ends }
+  sends_same (Some (stop.Spent t c)) [] b a es [] qs v e h = absurd (some_same letter qs h.rest h.next e h.pending)
+  sends_same (Some (stop.Spent t c)) [] b a es (p ∷ ps) qs v e h =
+      let both : letters letter (p ∷ ps) ≡ letters letter (h.next ∷ h.rest) = e ∙ ap (letters letter) h.pending in
+      let d : Post L = record { to = p.to; what = letter p.what } in
+      record { next = p; rest = ps; pending = refl; its_end = ap (λ l. (first_post d l).to) both ∙ h.its_end; unsent = h.unsent ∙ sym e; body = h.body; acts = h.acts; ends = h.ends }
+  sends_same why (false ∷ bs) b a es [] qs v e h = absurd (some_same letter qs h.1 h.0 e h.2)
+  sends_same why (true ∷ bs) b a es [] qs v e h = absurd (some_same letter qs h.1 h.0 e h.2)
+  sends_same why (false ∷ bs) b a es (p ∷ ps) qs v e h =
       let q = h.0 in
       let both : letters letter (p ∷ ps) ≡ letters letter (q ∷ h.1) = e ∙ ap (letters letter) h.2 in
       let d : Post L = record { to = p.to; what = letter p.what } in
@@ -94,9 +102,9 @@ module _ {L F M B : Type 0} (thread : ℕ) (letter : M → L) (marked : L → �
           not_exited = i.not_exited;
           sent = i.sent ∙ (λ k. slice_set es (sym to k) (record i.end { sent = i.end.sent ++ marked (sym what k) thread (length i.end.sent) ∷ [] }));
         },
-        sends_same bs b a h.3 ps h.1 v more h.5,
+        sends_same why bs b a h.3 ps h.1 v more h.5,
       )
-  sends_same (true ∷ bs) b a es (p ∷ ps) qs v e h =
+  sends_same why (true ∷ bs) b a es (p ∷ ps) qs v e h =
       let q = h.0 in
       let both : letters letter (p ∷ ps) ≡ letters letter (q ∷ h.1) = e ∙ ap (letters letter) h.2 in
       let d : Post L = record { to = p.to; what = letter p.what } in
@@ -123,7 +131,7 @@ module _ {L F M B : Type 0} (thread : ℕ) (letter : M → L) (marked : L → �
         u,
         subst (λ (x : Post L). takes_back x.to x.what (record { body = b; acts = record a { pending = [] } }) u) (sym one) h.6,
         h.7,
-        sends_same bs u.body u.acts h.3 (u.acts.pending ++ ps) (u.acts.pending ++ h.1) v all h.8,
+        sends_same why bs u.body u.acts h.3 (u.acts.pending ++ ps) (u.acts.pending ++ h.1) v all h.8,
       )
 
   -- one comes back unsent, since its receiver is known to have ended
@@ -167,11 +175,11 @@ module _ {L F M B : Type 0} (thread : ℕ) (letter : M → L) (marked : L → �
       before = ap (λ (l : List (Post M)). record a { pending = l }) f.parts
 
       outcome : (posts : List (Post M)) → f.posts ≡ posts → AreMade letter marked f.to f.posts f.behind k l c ⊎ ComeBack letter fits f.to f.posts f.behind k l c → (bs : List Bool) × Went thread letter marked takes_back bs s (flow_tied l c b)
-      outcome posts e (inl m) = (done ++ accepted f.posts, λ bs v h. subst (λ l. Sends thread letter marked takes_back l s v) (sym (append_assoc done (accepted f.posts) bs)) (went (accepted f.posts ++ bs) v (subst (λ (q : ActsEnd M). Sends thread letter marked takes_back (accepted f.posts ++ bs) (flow_tied k q b) v) (sym before) (made m bs v h))))
+      outcome posts e (inl m) = (done ++ accepted f.posts, λ why bs v h. subst (λ l. SendsUntil thread letter marked takes_back why l s v) (sym (append_assoc done (accepted f.posts) bs)) (went why (accepted f.posts ++ bs) v (subst (λ (q : ActsEnd M). SendsUntil thread letter marked takes_back why (accepted f.posts ++ bs) (flow_tied k q b) v) (sym before) (made m why bs v h))))
         where
-          made : (m : AreMade letter marked f.to f.posts f.behind k l c) (bs : List Bool) (v : Flow L F M B) → Sends thread letter marked takes_back bs (flow_tied l c b) v
-              → Sends thread letter marked takes_back (accepted f.posts ++ bs) (record { body = b; acts = record a { pending = f.posts ++ f.behind }; ends = k.ends }) v
-          made m bs v h =
+          made : (m : AreMade letter marked f.to f.posts f.behind k l c) (why : Option Stop) (bs : List Bool) (v : Flow L F M B) → SendsUntil thread letter marked takes_back why bs (flow_tied l c b) v
+              → SendsUntil thread letter marked takes_back why (accepted f.posts ++ bs) (record { body = b; acts = record a { pending = f.posts ++ f.behind }; ends = k.ends }) v
+          made m why bs v h =
               let g = m.grows in
               let e0 : Sender L F = slice_index_or k.ends f.to m.end in
               let one : g.end ≡ m.end = sym (g.at m.end) ∙ m.at m.end in
@@ -184,21 +192,21 @@ module _ {L F M B : Type 0} (thread : ℕ) (letter : M → L) (marked : L → �
               let long = marked_count marked k.thread (length m.end.sent) ls in
               let size = length-map f.posts (λ (p : Post M). letter p.what) in
               let count_end = ap (λ (x : Sender L F). length x.sent) one in
-              many_made thread letter marked takes_back f.to f.posts f.behind k.ends m.end b a bs v in_range m.at free (omega arith) f.all_to
-              (subst (λ (t : Flow L F M B). Sends thread letter marked takes_back bs t v) (λ i. record { body = b; acts = after i; ends = sent i }) h)
+              many_made thread letter marked takes_back why f.to f.posts f.behind k.ends m.end b a bs v in_range m.at free (omega arith) f.all_to
+              (subst (λ (t : Flow L F M B). SendsUntil thread letter marked takes_back why bs t v) (λ i. record { body = b; acts = after i; ends = sent i }) h)
       outcome [] e (inr m) = absurd (let x = f.size in let y = ap length e in omega arith)
-      outcome (p ∷ ps) e (inr m) = (done, λ bs v h. went bs v (back m bs v h))
+      outcome (p ∷ ps) e (inr m) = (done, λ why bs v h. went why bs v (back m why bs v h))
         where
-          back : (m : ComeBack letter fits f.to f.posts f.behind k l c) (bs : List Bool) (v : Flow L F M B) → Sends thread letter marked takes_back bs (flow_tied l c b) v → Sends thread letter marked takes_back bs (flow_tied k a b) v
-          back m bs v h =
+          back : (m : ComeBack letter fits f.to f.posts f.behind k l c) (why : Option Stop) (bs : List Bool) (v : Flow L F M B) → SendsUntil thread letter marked takes_back why bs (flow_tied l c b) v → SendsUntil thread letter marked takes_back why bs (flow_tied k a b) v
+          back m why bs v h =
               let g = m.found in
               let ends = ap (λ (t : Tied L F). t.ends) g.found in
               let after : c ≡ record a { pending = m.again ++ f.behind } = f.rest ∙ ap (λ (l : List (Post M)). record a { pending = l }) m.pending in
-              let moved : Sends thread letter marked takes_back bs (flow b a (slice_set k.ends f.to (record g.end { found = g.end.found + 1 })) (m.again ++ f.behind)) v =
-              subst (λ (t : Flow L F M B). Sends thread letter marked takes_back bs t v) (λ i. record { body = b; acts = after i; ends = ends i }) h in
+              let moved : SendsUntil thread letter marked takes_back why bs (flow b a (slice_set k.ends f.to (record g.end { found = g.end.found + 1 })) (m.again ++ f.behind)) v =
+              subst (λ (t : Flow L F M B). SendsUntil thread letter marked takes_back why bs t v) (λ i. record { body = b; acts = after i; ends = ends i }) h in
               let as_letters : letters letter (f.posts ++ f.behind) ≡ letters letter (m.again ++ f.behind) =
               map-append (λ (p : Post M). record { to = p.to; what = letter p.what }) f.posts f.behind ∙ ap (λ l. l ++ letters letter f.behind) (sym (posts_same letter f.to m.again f.posts m.same m.all_to f.all_to)) ∙ sym (map-append (λ (p : Post M). record { to = p.to; what = letter p.what }) m.again f.behind) in
-              let again = sends_same bs b a (slice_set k.ends f.to (record g.end { found = g.end.found + 1 })) (f.posts ++ f.behind) (m.again ++ f.behind) v as_letters moved in
+              let again = sends_same why bs b a (slice_set k.ends f.to (record g.end { found = g.end.found + 1 })) (f.posts ++ f.behind) (m.again ++ f.behind) v as_letters moved in
               let here = All-head (λ (q : Post M). q.to ≡ f.to) p ps (subst (λ l. All (λ (q : Post M). q.to ≡ f.to) l) e f.all_to) in
-              subst (λ (q : ActsEnd M). Sends thread letter marked takes_back bs (flow_tied k q b) v) (sym before)
-              (found_before thread letter marked takes_back f.to (g.end.found + 1) k.ends g.end p (ps ++ f.behind) b (record a { pending = f.posts ++ f.behind }) bs v in_range g.at (omega arith) (omega arith) (ap (λ l. l ++ f.behind) e) here again)
+              subst (λ (q : ActsEnd M). SendsUntil thread letter marked takes_back why bs (flow_tied k q b) v) (sym before)
+              (found_before thread letter marked takes_back why f.to (g.end.found + 1) k.ends g.end p (ps ++ f.behind) b (record a { pending = f.posts ++ f.behind }) bs v in_range g.at (omega arith) (omega arith) (ap (λ l. l ++ f.behind) e) here again)

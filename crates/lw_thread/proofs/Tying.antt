@@ -6,7 +6,7 @@ use Rattle.std.specs.declared.vec.Vec.{Vec}
 use Rattle.lw_thread.proofs.Counting.{set_same}
 use Rattle.std.proofs.lemmas.List.{get_or_default, take-append-le, append-nil, map-append, length-map, reverse-append, length-reverse, length_push, nil_from_length}
 use Rattle.std.proofs.lemmas.List.Elements.{All-head, All-tail}
-use Rattle.std.proofs.Math.Seq.{take-append_seam}
+use Rattle.std.proofs.Math.Seq.{take-append_seam, get_or-append_seam}
 use Rattle.std.proofs.Math.Logic.{dite}
 use native.Mathlib.Decide.{ℕ_discrete}
 use Rattle.lw_base.specs.declared.message.Tag.{Tag}
@@ -34,6 +34,12 @@ none_left letter xs e = nil_from_length xs (let a = ap length e in let b = lengt
 -- the last of a batch that lies in reverse is the first of it
 pub batch_first : {X : Type 0} (xs ys : List X) (x : X) → xs ≡ ys ++ x ∷ [] → reverse xs ≡ x ∷ reverse ys
 batch_first xs ys x e = ap reverse e ∙ reverse-append ys (x ∷ [])
+
+-- what stands at the last place of a list is its last
+pub last_is : {X : Type 0} (xs ys : List X) (x m : X) (n : ℕ) → xs ≡ ys ++ x ∷ [] → n + 1 ≡ length xs → m ≡ slice_index_or xs n m → m ≡ x
+last_is xs ys x m n e long at =
+    let size : n ≡ length ys = (let a = ap length e ∙ length_push ys x in omega arith) in
+    at ∙ (λ i. slice_index_or (e i) (size i) m) ∙ get_or-append_seam ys x [] m
 
 module _ {T L F : Type 0} (letter : T → L) (tag_of : L → Tag) (fits : ℕ → F → T → Type 0) where
   -- what the ring says of a take is one

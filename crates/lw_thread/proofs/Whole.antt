@@ -1,5 +1,5 @@
 -- A whole poll, out of its parts.
-use Rattle.std.proofs.Common.{◌≡◌, ℕ, suc, ◌+◌, ◌-◌, ◌≤◌, Bool, true, false, List, [], ◌∷◌, ◌++◌, length, map, refl, sym, ap, subst, ◌∙◌, arith, length-append, Any, Ok, Err, inl, inr, ⊎_elim}
+use Rattle.std.proofs.Common.{◌≡◌, ℕ, suc, ◌+◌, ◌-◌, ◌≤◌, Bool, true, false, List, [], ◌∷◌, ◌++◌, length, map, refl, sym, ap, subst, ◌∙◌, arith, length-append, Any, Ok, Err, inl, inr, ⊎_elim, Some}
 use Rattle.std.specs.Prelude.{slice_index_or, ◌||◌, ◌↔◌, ◌⊎◌, IsTrue, IfErr, IsErrAnd}
 use Rattle.std.specs.declared.result.Result.{Result}
 use Rattle.std.proofs.lemmas.Bool.{cases_lt, false≢true}
@@ -12,8 +12,9 @@ use Rattle.lw_ring.specs.Ends.{Receiver}
 use Rattle.lw_poller.specs.LocalDue.{begun}
 use Rattle.lw_thread.specs.Acts.{ActsEnd, Doing}
 use Rattle.lw_thread.specs.Links.{Tied, Fills}
-use Rattle.lw_thread.specs.Polls.{Takes, Flow, Tick, RunsAll, WasBusy}
-use Rattle.lw_thread.specs.Posting.{HasStopped, IsSending, RanBatch, RunsPart, StopsParts, flow_tied}
+use Rattle.lw_thread.specs.declared.body.Work.{Work}
+use Rattle.lw_thread.specs.Polls.{Takes, Flow, Tick, RunsAll, SendsUntil, WasBusy}
+use Rattle.lw_thread.specs.Posting.{HasStopped, IsSending, RanBatch, RunsPart, CalledActive, CalledTimed, PostsUntil, StopsParts, PartsUntil, CameToParts, flow_tied}
 
 -- a stop for want of memory
 pub stopped : {T L F : Type 0} (r : Result T Stop) (l : Tied L F) (Q : Type 0) → IsErrAnd r (λ e. e ≡ stop.NoMemory) → Q → IfErr r (λ s. HasStopped l s × Q)
@@ -88,6 +89,41 @@ module _ {L F M B : Type 0} (letter : M → L) (tag_of : L → Tag) (fits : ℕ 
         after_run = s.after_run;
         run_each = s.run_each;
       }
+
+  -- the poll was stopped while it made its sends
+  module _ (marked : L → ℕ → ℕ → L) (ticks : ℕ → ℕ → Work → Doing M B → Doing M B → Type 0) (takes_back : ℕ → L → Doing M B → Doing M B → Type 0) where
+    parts_until : (now : ℕ) (k l m n : Tied L F) (a a1 a2 a3 a4 c : ActsEnd M) (b b2 b3 b4 d : B) (worked active timed : Bool) (why : Stop) → Fills letter tag_of fits k l → a1 ≡ record a { pollers = begun now a.pollers }
+        → RanBatch tag_of runs now worked l m a1 a2 b b2 → CalledActive ticks now active m a2 a3 b2 b3 → CalledTimed ticks now timed m a3 a4 b3 b4 → PostsUntil letter marked takes_back m n a4 c b4 d why → IsSending m n
+        → PartsUntil letter tag_of fits marked runs ticks takes_back now k n a c b d why
+    parts_until now k l m n a a1 a2 a3 a4 c b b2 b3 b4 d worked active timed why f begun_is r act tim p same =
+        let recv : n.recv ≡ l.recv = ap (λ (t : Tied L F). t.recv) same.rest ∙ ap (λ (t : Tied L F). t.recv) r.noted in
+        let thread : m.thread ≡ k.thread = ap (λ (t : Tied L F). t.thread) r.noted ∙ ap (λ (t : Tied L F). t.thread) f.rest in
+        let first : Flow L F M B = flow_tied k (record a { pollers = begun now a.pollers }) b in
+        let start : flow_tied l a1 b ≡ first = λ i. record { body = b; acts = begun_is i; ends = (f.rest i).ends } in
+        record {
+          batch = l.left;
+          took = subst (λ (q : Receiver L F). Takes letter tag_of fits l.left k.recv q) (sym recv) f.took;
+          ran = ap (λ (t : Tied L F). t.ran) same.rest ∙ ap (λ (t : Tied L F). t.ran) r.noted ∙ (λ i. (f.rest i).ran ++ map tag_of (sym r.all i));
+          none_left = ap (λ (t : Tied L F). t.left) same.rest ∙ ap (λ (t : Tied L F). t.left) r.noted;
+          after_run = flow_tied m a2 b2;
+          active = act.calls;
+          after_active = flow_tied m a3 b3;
+          timed = tim.calls;
+          after_timed = flow_tied m a4 b4;
+          returned = p.returned;
+          run_each = subst (λ xs. RunsAll runs now xs first (flow_tied m a2 b2)) (sym r.all) (subst (λ (s : Flow L F M B). RunsAll runs now r.run s (flow_tied m a2 b2)) start r.each);
+          call_active = act.each;
+          call_timed = tim.each;
+          send_some = subst (λ t. SendsUntil t letter marked takes_back (Some why) p.returned (flow_tied m a4 b4) (flow_tied n c d)) thread p.sends;
+        }
+
+    pub came_sending : (now : ℕ) (k l m n : Tied L F) (a a1 a2 a3 a4 c : ActsEnd M) (b b2 b3 b4 d : B) (worked active timed : Bool) (why : Stop) → Fills letter tag_of fits k l → a1 ≡ record a { pollers = begun now a.pollers }
+        → RanBatch tag_of runs now worked l m a1 a2 b b2 → CalledActive ticks now active m a2 a3 b2 b3 → CalledTimed ticks now timed m a3 a4 b3 b4 → PostsUntil letter marked takes_back m n a4 c b4 d why → IsSending m n
+        → CameToParts letter tag_of fits marked runs ticks takes_back now k n a c b d why
+    came_sending now k l m n a a1 a2 a3 a4 c b b2 b3 b4 d worked active timed stop.NoMemory f begun_is r act tim p same =
+        inr (parts_until now k l m n a a1 a2 a3 a4 c b b2 b3 b4 d worked active timed stop.NoMemory f begun_is r act tim p same)
+    came_sending now k l m n a a1 a2 a3 a4 c b b2 b3 b4 d worked active timed (stop.Spent to count) f begun_is r act tim p same =
+        parts_until now k l m n a a1 a2 a3 a4 c b b2 b3 b4 d worked active timed (stop.Spent to count) f begun_is r act tim p same
 
 -- behind the first list stands the second
 get_or-append_right : {X : Type 0} (xs ys : List X) (d : X) (k : ℕ) → slice_index_or (xs ++ ys) (length xs + k) d ≡ slice_index_or ys k d

@@ -4,6 +4,7 @@ pub mod PollerChanges
 pub mod Calls
 pub mod Threads
 pub mod Polls
+pub mod PollersCalled
 pub mod Runs
 pub mod Links
 pub mod Refused

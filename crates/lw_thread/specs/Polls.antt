@@ -1,5 +1,5 @@
 -- What one poll of a light thread does.
-use Rattle.std.specs.Prelude.{◌≡◌, ◌⊎◌, ℕ, ◌+◌, ◌<◌, ◌≤◌, ◌↔◌, Bool, true, false, IsTrue, List, [], ◌∷◌, ◌++◌, length, map, All, Any, slice_index_or, slice_set}
+use Rattle.std.specs.Prelude.{◌≡◌, ◌⊎◌, ℕ, ◌+◌, ◌<◌, ◌≤◌, ◌↔◌, Bool, true, false, IsTrue, List, [], ◌∷◌, ◌++◌, length, map, All, Any, Option, Some, None, slice_index_or, slice_set}
 use Rattle.lw_base.specs.declared.message.Tag.{Tag}
 use Rattle.lw_latch.specs.RingWord.{most_sent}
 use Rattle.lw_ring.specs.Ends.{Sender, Receiver}
@@ -12,7 +12,7 @@ use Rattle.lw_thread.specs.declared.body.Work.TheVariants as work
 use Rattle.lw_thread.specs.declared.stop.Stop.{Stop}
 use Rattle.lw_thread.specs.declared.stop.Stop.TheVariants as stop
 use Rattle.lw_thread.specs.declared.stop.Polled.{Polled}
-use Rattle.lw_thread.specs.Acts.{Post, ActsEnd, Doing}
+use Rattle.lw_thread.specs.Acts.{Post, ActsEnd, Doing, letters}
 use Rattle.lw_thread.specs.Calls.{Adds}
 use Rattle.lw_thread.specs.Threads.{Thread}
 
@@ -47,6 +47,11 @@ ticked c = c.poller
 -- one more message was run
 abbrev pub one_more : {M : Type 0} → ActsEnd M → ActsEnd M
 one_more a = record a { ran = a.ran + 1 }
+
+-- the same ends, which may have found their rings closed more often
+abbrev pub FindMore : {L F : Type 0} → List (Sender L F) → List (Sender L F) → Type 0
+FindMore {L} {F} es fs = (length fs ≡ length es) × ((k : ℕ) (d : Sender L F) → k < length es
+    → (n : ℕ) × ((slice_index_or es k d).found ≤ n) × (slice_index_or fs k d ≡ record (slice_index_or es k d) { found = n }))
 
 module _ {L F M B : Type 0} where
   abbrev pub doing : Flow L F M B → Doing M B
@@ -117,19 +122,52 @@ module _ {L F M B : Type 0} where
       pub no_less : end.found ≤ found
       pub same : fs ≡ slice_set es p.to (record end { found = found })
 
-    -- which of the sends came back, in order, and how far the poll is then
-    abbrev pub Sends : List Bool → Flow L F M B → Flow L F M B → Type 0
-    Sends [] s t = (s.acts.pending ≡ []) × (t ≡ s)
-    Sends (false ∷ bs) s t =
+    -- the next send goes to this end and isn't made: it is still to be made, as are all behind it, and nothing else was done
+    pub record IsRefused (to : ℕ) (s t : Flow L F M B) : Type 0 where
+      pub next : Post M
+      pub rest : List (Post M)
+      pub pending : s.acts.pending ≡ next ∷ rest
+      pub its_end : next.to ≡ to
+      pub unsent : letters letter t.acts.pending ≡ letters letter s.acts.pending
+      pub body : t.body ≡ s.body
+      pub acts : t.acts ≡ record s.acts { pending = t.acts.pending }
+      pub ends : FindMore s.ends t.ends
+
+    -- The next sends, all to one end, aren't made for want of memory. Those behind them are still to be made, in order; what
+    -- stands before these isn't told, nor what became of the body.
+    pub record IsCutShort (s t : Flow L F M B) : Type 0 where
+      pub to : ℕ
+      pub next : List (Post L)
+      pub rest : List (Post L)
+      pub pending : letters letter s.acts.pending ≡ next ++ rest
+      pub its_end : All (λ p. p.to ≡ to) next
+      pub before : List (Post L)
+      pub unsent : letters letter t.acts.pending ≡ before ++ rest
+      pub ends : FindMore s.ends t.ends
+
+    -- how the sends end: all are made, or why not
+    abbrev pub SendsEnd : Option Stop → Flow L F M B → Flow L F M B → Type 0
+    SendsEnd None s t = (s.acts.pending ≡ []) × (t ≡ s)
+    SendsEnd (Some stop.NoMemory) s t = IsCutShort s t
+    SendsEnd (Some (stop.Spent to count)) s t = IsRefused to s t
+
+    -- which of the sends came back, in order, how the sends end, and how far the poll is then
+    abbrev pub SendsUntil : Option Stop → List Bool → Flow L F M B → Flow L F M B → Type 0
+    SendsUntil why [] s t = SendsEnd why s t
+    SendsUntil why (false ∷ bs) s t =
         (p : Post M) × (rest : List (Post M)) × (s.acts.pending ≡ p ∷ rest)
         × (es : List (Sender L F)) × IsAccepted p s.ends es
-        × Sends bs (record (with_pending s rest) { ends = es }) t
-    Sends (true ∷ bs) s t =
+        × SendsUntil why bs (record (with_pending s rest) { ends = es }) t
+    SendsUntil why (true ∷ bs) s t =
         (p : Post M) × (rest : List (Post M)) × (s.acts.pending ≡ p ∷ rest)
         × (es : List (Sender L F)) × IsReturned p s.ends es
         × (u : Doing M B) × takes_back p.to (letter p.what) (doing (with_pending s [])) u
         × Adds (with_pending s []).acts u.acts
-        × Sends bs (record { body = u.body; acts = record u.acts { pending = u.acts.pending ++ rest }; ends = es }) t
+        × SendsUntil why bs (record { body = u.body; acts = record u.acts { pending = u.acts.pending ++ rest }; ends = es }) t
+
+    -- all of them are made, or come back
+    abbrev pub Sends : List Bool → Flow L F M B → Flow L F M B → Type 0
+    Sends bs s t = SendsUntil None bs s t
 
 -- a poller that found work
 abbrev pub WasBusy : Tick → Type 0
@@ -179,3 +217,26 @@ module _ {L F M B : Type 0} (letter : M → L) (tag_of : L → Tag) (fits : ℕ 
     pub ran : new.ran ≡ old.ran ++ map tag_of (done ++ last)
     pub after_run : Flow L F M B
     pub run_each : RunsAll runs now done (opened now old) after_run
+
+-- One poll until this reason stopped it while it made its sends: it took and ran messages and called the pollers as `Polls` says.
+module _ {L F M B : Type 0} (letter : M → L) (tag_of : L → Tag) (fits : ℕ → F → M → Type 0) (marked : L → ℕ → ℕ → L) (runs : L → ℕ → Doing M B → Doing M B → Type 0) (ticks : ℕ → ℕ → Work → Doing M B → Doing M B → Type 0) (takes_back : ℕ → L → Doing M B → Doing M B → Type 0) where
+  pub record PollsUntil (now : ℕ) (old new : Thread L F M B) (why : Stop) : Type 0 where
+    pub batch : List L
+    pub took : Takes letter tag_of fits batch old.recv new.recv
+    pub ran : new.ran ≡ old.ran ++ map tag_of batch
+    pub none_left : new.left ≡ []
+    pub after_run : Flow L F M B
+    pub active : List Tick
+    pub after_active : Flow L F M B
+    pub timed : List Tick
+    pub after_timed : Flow L F M B
+    pub returned : List Bool
+    pub run_each : RunsAll runs now batch (opened now old) after_run
+    pub call_active : TicksActive ticks now active after_run after_active
+    pub call_timed : TicksTimed ticks now timed after_active after_timed
+    pub send_some : SendsUntil old.seat.thread letter marked takes_back (Some why) returned after_timed (flow_of new)
+
+  -- How far a poll came that stopped. An end is spent only when a send is made; memory may be wanting before any is.
+  abbrev pub CameTo : ℕ → Thread L F M B → Thread L F M B → Stop → Type 0
+  CameTo now old new stop.NoMemory = (new.ends ≡ old.ends) ⊎ PollsUntil now old new stop.NoMemory
+  CameTo now old new (stop.Spent to count) = PollsUntil now old new (stop.Spent to count)

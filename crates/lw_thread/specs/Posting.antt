@@ -1,5 +1,5 @@
 -- What the parts of a poll keep, and what each of them does.
-use Rattle.std.specs.Prelude.{◌≡◌, ◌⊎◌, ℕ, ◌+◌, ◌<◌, ◌≤◌, ◌↔◌, Bool, IsTrue, List, [], ◌∷◌, ◌++◌, length, map, All, Any, Option, slice_index_or}
+use Rattle.std.specs.Prelude.{◌≡◌, ◌⊎◌, ℕ, ◌+◌, ◌<◌, ◌≤◌, ◌↔◌, Bool, IsTrue, List, [], ◌∷◌, ◌++◌, length, map, All, Any, Option, Some, slice_index_or}
 use Rattle.lw_base.specs.declared.message.Tag.{Tag}
 use Rattle.lw_base.specs.Letters.{FitsRing}
 use Rattle.lw_latch.specs.RingWord.{most_sent}
@@ -9,11 +9,11 @@ use Rattle.lw_poller.specs.LocalDue.{begun}
 use Rattle.lw_thread.specs.declared.stop.Polled.{Polled}
 use Rattle.lw_thread.specs.declared.stop.Stop.{Stop}
 use Rattle.lw_thread.specs.declared.stop.Stop.TheVariants as stop
-use Rattle.lw_thread.specs.Acts.{Known, Asks, Post, ActsEnd, Doing, AllFit, asks_of}
+use Rattle.lw_thread.specs.Acts.{Known, Asks, Post, ActsEnd, Doing, AllFit, asks_of, letters}
 use Rattle.lw_thread.specs.Calls.{AreOf, Adds}
 use Rattle.lw_thread.specs.Threads.{EndsStill}
 use Rattle.lw_thread.specs.Links.{Tied, known_tied, Grows, FindsClosed, marked_from}
-use Rattle.lw_thread.specs.Polls.{Takes, Flow, Tick, RunsAll, TicksActive, TicksTimed, Sends, WasBusy}
+use Rattle.lw_thread.specs.Polls.{Takes, Flow, Tick, RunsAll, TicksActive, TicksTimed, Sends, SendsUntil, WasBusy}
 
 module _ {L F M B : Type 0} where
   abbrev pub flow_tied : Tied L F → ActsEnd M → B → Flow L F M B
@@ -29,6 +29,11 @@ module _ {L F M B : Type 0} where
   pub record Posts (letter : M → L) (marked : L → ℕ → ℕ → L) (takes_back : ℕ → L → Doing M B → Doing M B → Type 0) (k l : Tied L F) (a c : ActsEnd M) (b d : B) : Type 0 where
     pub returned : List Bool
     pub sends : Sends k.thread letter marked takes_back returned (flow_tied k a b) (flow_tied l c d)
+
+  -- some sends were made, until this reason stopped it
+  pub record PostsUntil (letter : M → L) (marked : L → ℕ → ℕ → L) (takes_back : ℕ → L → Doing M B → Doing M B → Type 0) (k l : Tied L F) (a c : ActsEnd M) (b d : B) (why : Stop) : Type 0 where
+    pub returned : List Bool
+    pub sends : SendsUntil k.thread letter marked takes_back (Some why) returned (flow_tied k a b) (flow_tied l c d)
 
   -- some messages were run
   pub record RanBatch (tag_of : L → Tag) (runs : L → ℕ → Doing M B → Doing M B → Type 0) (now : ℕ) (worked : Bool) (k l : Tied L F) (a c : ActsEnd M) (b d : B) : Type 0 where
@@ -150,6 +155,29 @@ module _ {L F M B : Type 0} where
     pub acts : c ≡ record last.acts { started = [] }
     pub ends : l.ends ≡ last.ends
 
+module _ {L F M B : Type 0} (letter : M → L) (tag_of : L → Tag) (fits : ℕ → F → M → Type 0) (marked : L → ℕ → ℕ → L) (runs : L → ℕ → Doing M B → Doing M B → Type 0) (ticks : ℕ → ℕ → Work → Doing M B → Doing M B → Type 0) (takes_back : ℕ → L → Doing M B → Doing M B → Type 0) where
+  -- a poll until this reason stopped it while it made its sends, over the thread's parts
+  pub record PartsUntil (now : ℕ) (k l : Tied L F) (a c : ActsEnd M) (b d : B) (why : Stop) : Type 0 where
+    pub batch : List L
+    pub took : Takes letter tag_of fits batch k.recv l.recv
+    pub ran : l.ran ≡ k.ran ++ map tag_of batch
+    pub none_left : l.left ≡ []
+    pub after_run : Flow L F M B
+    pub active : List Tick
+    pub after_active : Flow L F M B
+    pub timed : List Tick
+    pub after_timed : Flow L F M B
+    pub returned : List Bool
+    pub run_each : RunsAll runs now batch (flow_tied k (record a { pollers = begun now a.pollers }) b) after_run
+    pub call_active : TicksActive ticks now active after_run after_active
+    pub call_timed : TicksTimed ticks now timed after_active after_timed
+    pub send_some : SendsUntil k.thread letter marked takes_back (Some why) returned after_timed (flow_tied l c d)
+
+  -- how far it came
+  abbrev pub CameToParts : ℕ → Tied L F → Tied L F → ActsEnd M → ActsEnd M → B → B → Stop → Type 0
+  CameToParts now k l a c b d stop.NoMemory = (l.ends ≡ k.ends) ⊎ PartsUntil now k l a c b d stop.NoMemory
+  CameToParts now k l a c b d (stop.Spent to count) = PartsUntil now k l a c b d (stop.Spent to count)
+
 module _ {L F M B : Type 0} (tag_of : L → Tag) (runs : L → ℕ → Doing M B → Doing M B → Type 0) where
   -- Of a batch, the first messages were run, each to its end, and then one whose handler stopped; the others are left.
   pub record RunsPart (now : ℕ) (k l : Tied L F) (a : ActsEnd M) (b : B) : Type 0 where
@@ -186,3 +214,29 @@ pub record IsStillTied {L F : Type 0} (k l : Tied L F) : Type 0 where
   pub thread : l.thread ≡ k.thread
   pub recv : l.recv ≡ record k.recv { taken = l.recv.taken; hand = l.recv.hand }
   pub ends : EndsStill k.ends l.ends
+
+-- the first send, to this end, isn't made, and all that were to be made still are
+pub record AllWait {M L F : Type 0} (letter : M → L) (to : ℕ) (k l : Tied L F) (old new : ActsEnd M) : Type 0 where
+  pub first : Post M
+  pub rest : List (Post M)
+  pub pending : old.pending ≡ first ∷ rest
+  pub its_end : first.to ≡ to
+  pub links : l ≡ k
+  pub acts : new ≡ record old { pending = new.pending }
+  pub unsent : letters letter new.pending ≡ letters letter old.pending
+
+-- the first sends, all to one end, aren't made, and those behind them are still to be made
+pub record OthersWait {M L F : Type 0} (k l : Tied L F) (old new : ActsEnd M) : Type 0 where
+  pub to : ℕ
+  pub first : List (Post M)
+  pub rest : List (Post M)
+  pub pending : old.pending ≡ first ++ rest
+  pub its_end : All (λ p. p.to ≡ to) first
+  pub before : List (Post M)
+  pub unsent : new.pending ≡ before ++ rest
+  pub ends : (l ≡ k) ⊎ FindsClosed to k l
+
+-- what a send that isn't made leaves
+abbrev pub StillWait : {M L F : Type 0} → (M → L) → Tied L F → Tied L F → ActsEnd M → ActsEnd M → Stop → Type 0
+StillWait letter k l a c stop.NoMemory = OthersWait k l a c
+StillWait letter k l a c (stop.Spent to count) = AllWait letter to k l a c

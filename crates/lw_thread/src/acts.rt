@@ -151,6 +151,9 @@ impl<M: Tagged + Drop> Acts<M> {
         ensures taken { (result.items ≡ self.old.started) × (self.new ≡ record self.old { started = [] }) }
         ensures numbers { All (λ n. n < self.old.threads) result.items }
     {
+        if self.started.is_empty() {
+            return Vec::new(self.alloc);
+        }
         mem::replace(&mut self.started, Vec::new(self.alloc))
     }
 
@@ -253,10 +256,16 @@ impl<M: Tagged + Drop> Acts<M> {
         Some(self.asked.front()?.to)
     }
 
-    // How many next to each other go to this thread, from the first one on. No more than so many are looked at.
+    // How many next to each other go to this thread, from the first one on, which does. Of several no more than so many are
+    // looked at.
     pub(crate) fn neighbours(&self, to: u32, most: u64) -> usize
-        ensures { result ≡ min (first_to to self.now.pending) most }
+        requires { 1 ≤ first_to to self.now.pending }
+        ensures all { result ≤ first_to to self.now.pending }
+        ensures most { 2 ≤ result → result ≤ most }
     {
+        if self.asked.len() < 2 {
+            return 1;
+        }
         for place in 0..self.asked.len() {
             if place as u64 == most {
                 return place;

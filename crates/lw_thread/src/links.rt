@@ -108,9 +108,13 @@ impl<M: Tagged + Drop> Links<M> {
         ensures few { length self.new.ran < above_all_sent }
     {
         let _taken = self.recv.taken();
-        let message = self.batch.pop()?;
+        // The tag is noted first, and so the message is moved once.
+        if self.batch.is_empty() {
+            return None;
+        }
+        let message = &self.batch[self.batch.len() - 1];
         self.ran.push_reserved(message.tag());
-        Some(message)
+        Some(self.batch.take_last())
     }
 
     // Whether the thread of this number has ended, as far as a send has shown it.

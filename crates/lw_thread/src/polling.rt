@@ -2,7 +2,7 @@
 ghost use Rattle.std.specs.Prelude.{◌≡◌, ◌≤◌, [], length, IfOk, IfErr, OnOk, OnErr};
 ghost use Rattle.lw_poller.specs.Pollers.{AreKept};
 ghost use Rattle.lw_thread.specs.Polls.{most_taken};
-ghost use Rattle.lw_thread.specs.Posting.{IsGoing, HasStopped, RanBatch, RunsPart, CalledActive, CalledTimed, PollsParts, StopsParts, IsStillTied};
+ghost use Rattle.lw_thread.specs.Posting.{IsGoing, HasStopped, RanBatch, RunsPart, CalledActive, CalledTimed, PollsParts, StopsParts, CameToParts, IsStillTied};
 
 use crate::acts::Acts;
 use crate::body::Body;
@@ -31,6 +31,8 @@ pub(crate) fn poll_parts<B: Body, R: Wait>(
         B.takes_back now links.old links.new acts.old acts.new body.old body.new p) }
     ensures stop { IfErr result (λ s. HasStopped links.new s × StopsParts B.Message.tag_of B.runs B.Message.letter
         B.Message.fits now links.old links.new acts.old body.old) }
+    ensures came { IfErr result (CameToParts B.Message.letter B.Message.tag_of B.Message.fits B.Message.marked B.runs B.ticks
+        B.takes_back now links.old links.new acts.old acts.new body.old body.new) }
     ensures still { IsStillTied links.old links.new }
 {
     acts.begin(now);

@@ -2,13 +2,13 @@
 //!
 //! They are made in order; those that stand next to each other and go to one thread go in one run. What comes back, since that
 //! thread has ended, goes to the body message by message, and what that asks for is sent first.
-ghost use Rattle.std.specs.Prelude.{◌≡◌, ◌≢◌, ◌+◌, ◌<◌, ◌≤◌, ℕ, [], length, All, IfErr, OnOk, slice_index_or, vec_capacity};
+ghost use Rattle.std.specs.Prelude.{◌≡◌, ◌≢◌, ◌+◌, ◌<◌, ◌≤◌, ℕ, [], length, List, ◌++◌, All, IfErr, OnOk, OnErr, slice_index_or, vec_capacity};
 ghost use Rattle.lw_base.specs.Letters.{FitsRing};
 ghost use Rattle.lw_latch.specs.RingWord.{most_sent};
 ghost use Rattle.lw_ring.specs.Calls.{NamedFrom};
-ghost use Rattle.lw_thread.specs.Acts.{AllFit};
+ghost use Rattle.lw_thread.specs.Acts.{AllFit, Post};
 ghost use Rattle.lw_thread.specs.Sending.{first_to};
-ghost use Rattle.lw_thread.specs.Posting.{Posts, IsGoing, IsSending, HasStopped, Gathers, PutsFirst, SendsFirst, TakesBack, KeepsOthers};
+ghost use Rattle.lw_thread.specs.Posting.{Posts, PostsUntil, IsGoing, IsSending, HasStopped, Gathers, PutsFirst, SendsFirst, StillWait, TakesBack, KeepsOthers};
 
 use crate::acts::{Acts, Asked};
 use crate::body::Body;
@@ -34,6 +34,8 @@ pub(crate) fn send_all<B: Body, R: Wait>(
         acts.old acts.new body.old body.new) }
     ensures same { IsSending links.old links.new }
     ensures stop { IfErr result (HasStopped links.new) }
+    ensures until { IfErr result (PostsUntil B.Message.letter B.Message.marked B.takes_back links.old links.new acts.old acts.new
+        body.old body.new) }
 {
     for _ in rt.forever() {
         let Some(to) = acts.first_receiver() else {
@@ -65,6 +67,7 @@ fn send_on<M: Tagged + Drop, R: Wait>(
         × SendsFirst M.letter M.marked M.fits count links.old links.new acts.old acts.new) }
     ensures same { IsSending links.old links.new }
     ensures stop { IfErr result (HasStopped links.new) }
+    ensures wait { IfErr result (StillWait M.letter links.old links.new acts.old acts.new) }
 {
     let count = acts.neighbours(to, links.room(to));
     if count < 2 {
@@ -109,6 +112,7 @@ fn send_one<M: Tagged + Drop, R: Wait>(
     ensures ok { OnOk result (SendsFirst M.letter M.marked M.fits 1 links.old links.new acts.old acts.new) }
     ensures same { IsSending links.old links.new }
     ensures stop { IfErr result (HasStopped links.new) }
+    ensures wait { IfErr result (StillWait M.letter links.old links.new acts.old acts.new) }
 {
     let Some(Asked { to, message }) = acts.next_send() else {
         unreachable!()
@@ -147,6 +151,7 @@ fn send_some<M: Tagged + Drop, R: Wait>(
     ensures ok { OnOk result (SendsFirst M.letter M.marked M.fits count links.old links.new acts.old acts.new) }
     ensures same { IsSending links.old links.new }
     ensures stop { IfErr result (HasStopped links.new) }
+    ensures wait { IfErr result (StillWait M.letter links.old links.new acts.old acts.new) }
 {
     let run = gather(links.vector(alloc, count)?, to, count, acts, links);
     match links.send_run(rt, to, run) {
@@ -197,7 +202,8 @@ fn put_all_first<M: Tagged + Drop>(
     acts: &mut Acts<M>,
 ) -> Result<(), NoMemory>
     requires { to < acts.old.threads }
-    ensures { OnOk result (PutsFirst M.letter M.marked M.fits to run.items acts.old acts.new) }
+    ensures first { OnOk result (PutsFirst M.letter M.marked M.fits to run.items acts.old acts.new) }
+    ensures kept { OnErr result ((before : List (Post M)) × (acts.new.pending ≡ before ++ acts.old.pending)) }
 {
     for _ in 0..run.len() {
         let Some(message) = run.pop() else {

@@ -264,16 +264,17 @@ impl<B: Body> LightThread<B> {
 }
 
 impl<B: Body> LightThread<B> {
-    ghost use Rattle.lw_thread.specs.Polls.{Polls, Stops, IsStop};
+    ghost use Rattle.lw_thread.specs.Polls.{Polls, Stops, IsStop, CameTo};
 
     /// One poll at this time: takes at most 8 messages and runs them, calls each active poller, then each timed one that is due,
     /// and makes the sends that all of this asked for.
     ///
-    /// `Stop` is `Spent` only where the end that it names has sent 2^40. After a Stop what was taken and not run stays in the
-    /// thread; nothing is said of the body, nor of the sends that weren't made, and the thread isn't polled again. Of those sends
-    /// `Spent` drops none; `NoMemory` drops that one for which there was no memory, or the run of them that goes to one thread,
-    /// or what `Body::returned` asked for last, and keeps the others. A poll in which nothing comes and nothing is sent takes no
-    /// memory but that the log may get room.
+    /// `Stop` is `Spent` only where the end that it names has sent 2^40. Then all is done as in any poll, up to the send by that
+    /// end: it and all behind it are still to be made, in order. `NoMemory` comes before any send is made, or at one of them: then
+    /// too all is done up to that send, and those behind it are still to be made, but it, or the run of sends to one thread that
+    /// it stands in, or what `Body::returned` asked for last, may be dropped. Where a call of the body answered it, nothing is said
+    /// of the body and its acts. After a Stop what was taken and not run stays in the thread, and the thread isn't polled again.
+    /// A poll in which nothing comes and nothing is sent takes no memory but that the log may get room.
     pub fn poll<R: Wait>(&mut self, rt: &R, now: Tick) -> Result<Polled, Stop>
         requires { self.old.stopped ≡ false }
         ensures going { OnOk result (self.new.stopped ≡ false) }
@@ -281,6 +282,8 @@ impl<B: Body> LightThread<B> {
             B.takes_back now self.old self.new p) }
         ensures stopped { IfErr result (λ s. (self.new.stopped ≡ true) × IsStop self.new s
             × Stops B.Message.letter B.Message.tag_of B.Message.fits B.runs now self.old self.new) }
+        ensures came { IfErr result (CameTo B.Message.letter B.Message.tag_of B.Message.fits B.Message.marked B.runs B.ticks
+            B.takes_back now self.old self.new) }
         ensures still { IsStill self.old self.new }
         ensures rest { (self.new.seat ≡ self.old.seat) × (self.new.load ≡ self.old.load)
             × (self.new.trail ≡ self.old.trail) }

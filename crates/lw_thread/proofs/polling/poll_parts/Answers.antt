@@ -1,4 +1,4 @@
-use Rattle.std.proofs.Common.{◌≡◌, ◌<◌, ◌≤◌, ◌++◌, length, map, refl, sym, ap, subst, ◌∙◌, All}
+use Rattle.std.proofs.Common.{◌≡◌, ◌<◌, ◌≤◌, ◌++◌, length, map, refl, sym, ap, subst, ◌∙◌, All, inl}
 use Rattle.std.specs.Prelude.{IsTrue, ◌↔◌}
 use Rattle.std.proofs.lemmas.List.{length-map}
 use Rattle.lw_poller.specs.Pollers.{AreKept}
@@ -7,8 +7,10 @@ use Rattle.lw_thread.specs.Acts.{ActsEnd}
 use Rattle.lw_ring.specs.Ends.{Sender}
 use Rattle.lw_thread.specs.Polls.{Takes, RunsAll, Sends}
 use Rattle.lw_thread.specs.Links.{Tied}
-use Rattle.lw_thread.specs.Posting.{StopsParts, flow_tied}
-use Rattle.lw_thread.proofs.Whole.{stopped, stops_none, stops_part, stops_ran, stops_sent, worked_any}
+use Rattle.lw_thread.specs.declared.stop.Stop.TheVariants as stop
+use Rattle.lw_thread.specs.Posting.{StopsParts, CameToParts, flow_tied}
+use Rattle.lw_thread.proofs.Waits.{for_reason}
+use Rattle.lw_thread.proofs.Whole.{stopped, stops_none, stops_part, stops_ran, stops_sent, came_sending, worked_any}
 use Rattle.lw_thread.proofs.PollerCalls.{kept_runs, kept_ticked, kept_timed_calls, kept_sends}
 use Rattle.lw_thread.proofs.polling.poll_parts.Goals as goal
 
@@ -109,3 +111,29 @@ returns-clause-polled g c =
       acts = c.take_started.ensures.taken.1;
       ends = refl;
     }
+
+pub returns-in_err-fill-clause-came : goal.returns-in_err-fill-clause-came
+returns-in_err-fill-clause-came g c =
+    for_reason c.from_residual.result stop.NoMemory (CameToParts g.B.Message.Tagged.letter g.B.Message.Tagged.tag_of g.B.Message.Tagged.fits g.B.Message.Tagged.marked g.B.Body.runs g.B.Body.ticks g.B.Body.takes_back c.args.now c.args.links.now c.fill.new.self c.args.acts.now c.begin.new.self c.args.body.now c.args.body.now) c.from_residual.ensures.1
+    (inl (ap (λ (t : Tied _ _). t.ends) c.in_err-fill.ensures.same))
+
+pub returns-in_err-ran-clause-came : goal.returns-in_err-ran-clause-came
+returns-in_err-ran-clause-came g c =
+    for_reason c.from_residual-in_err-ran.result stop.NoMemory (CameToParts g.B.Message.Tagged.letter g.B.Message.Tagged.tag_of g.B.Message.Tagged.fits g.B.Message.Tagged.marked g.B.Body.runs g.B.Body.ticks g.B.Body.takes_back c.args.now c.args.links.now c.run_batch.new.links c.args.acts.now c.run_batch.new.acts c.args.body.now c.run_batch.new.body) c.from_residual-in_err-ran.ensures.1
+    (inl (ap (λ (t : Tied _ _). t.ends) c.in_err-ran.ensures.part.noted ∙ ap (λ (t : Tied _ _). t.ends) c.in_ok-fill.ensures.ok.rest))
+
+pub returns-in_err-active-clause-came : goal.returns-in_err-active-clause-came
+returns-in_err-active-clause-came g c =
+    for_reason c.from_residual-in_err-active.result stop.NoMemory (CameToParts g.B.Message.Tagged.letter g.B.Message.Tagged.tag_of g.B.Message.Tagged.fits g.B.Message.Tagged.marked g.B.Body.runs g.B.Body.ticks g.B.Body.takes_back c.args.now c.args.links.now c.run_batch.new.links c.args.acts.now c.call_active.new.acts c.args.body.now c.call_active.new.body) c.from_residual-in_err-active.ensures.1
+    (inl (ap (λ (t : Tied _ _). t.ends) c.in_ok-ran.ensures.ran.noted ∙ ap (λ (t : Tied _ _). t.ends) c.in_ok-fill.ensures.ok.rest))
+
+pub returns-in_err-timed-clause-came : goal.returns-in_err-timed-clause-came
+returns-in_err-timed-clause-came g c =
+    for_reason c.from_residual-in_err-timed.result stop.NoMemory (CameToParts g.B.Message.Tagged.letter g.B.Message.Tagged.tag_of g.B.Message.Tagged.fits g.B.Message.Tagged.marked g.B.Body.runs g.B.Body.ticks g.B.Body.takes_back c.args.now c.args.links.now c.run_batch.new.links c.args.acts.now c.call_timed.new.acts c.args.body.now c.call_timed.new.body) c.from_residual-in_err-timed.ensures.1
+    (inl (ap (λ (t : Tied _ _). t.ends) c.in_ok-ran.ensures.ran.noted ∙ ap (λ (t : Tied _ _). t.ends) c.in_ok-fill.ensures.ok.rest))
+
+pub returns-in-Err-clause-came : goal.returns-in-Err-clause-came
+returns-in-Err-clause-came g c =
+    came_sending g.B.Message.Tagged.letter g.B.Message.Tagged.tag_of g.B.Message.Tagged.fits g.B.Body.runs g.B.Message.Tagged.marked g.B.Body.ticks g.B.Body.takes_back c.args.now c.args.links.now c.fill.new.self c.run_batch.new.links c.send_all.new.links
+    c.args.acts.now c.begin.new.self c.run_batch.new.acts c.call_active.new.acts c.call_timed.new.acts c.send_all.new.acts c.args.body.now c.run_batch.new.body c.call_active.new.body c.call_timed.new.body c.send_all.new.body
+    c.in_ok-ran.ran c.in_ok-active.active c.in_ok-timed.timed c.in-Err.stop c.in_ok-fill.ensures.ok c.begin.ensures.begun c.in_ok-ran.ensures.ran c.in_ok-active.ensures.called c.in_ok-timed.ensures.called c.in-Err.ensures.until c.in-Err.ensures.same

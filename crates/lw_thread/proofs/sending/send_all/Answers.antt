@@ -3,9 +3,11 @@ use Rattle.std.proofs.lemmas.List.{append-nil, length-map}
 use Rattle.lw_ring.specs.Ends.{Sender}
 use Rattle.lw_thread.specs.Links.{Tied}
 use Rattle.lw_thread.specs.Polls.{Sends}
-use Rattle.lw_thread.specs.Posting.{flow_tied}
+use Rattle.lw_thread.specs.declared.stop.Stop.TheVariants as stop
+use Rattle.lw_thread.specs.Posting.{PostsUntil, flow_tied}
 use Rattle.lw_thread.proofs.Sent.{goes_there, step_back, step_sent, still_both}
 use Rattle.lw_thread.proofs.Going.{going_sent}
+use Rattle.lw_thread.proofs.Waits.{for_reason, posts_until, cut_back, ends_there}
 use Rattle.lw_thread.proofs.sending.send_all.Goals as goal
 
 pub returns-in_default-clause-posts : goal.returns-in_default-clause-posts
@@ -15,7 +17,7 @@ returns-in_default-clause-posts g c =
     record {
       returned = i.returned;
       sends = subst (λ bs. Sends c.args.links.now.thread g.B.Message.Tagged.letter g.B.Message.Tagged.marked g.B.Body.takes_back bs (flow_tied c.args.links.now c.args.acts.now c.args.body.now) last) (append-nil i.returned)
-          (i.went [] last (c.in_default.ensures, refl));
+          (i.went None [] last (c.in_default.ensures, refl));
     }
 
 pub send_on-requires-clause-in_range : goal.send_on-requires-clause-in_range
@@ -51,3 +53,18 @@ loop-preserved g c =
       returned = step.0;
       went = step.1;
     }
+
+pub returns-in_err-hand_back-clause-until : goal.returns-in_err-hand_back-clause-until
+returns-in_err-hand_back-clause-until g c =
+    let i = c.loop.invariant in
+    for_reason c.from_residual.result stop.NoMemory (PostsUntil g.B.Message.Tagged.letter g.B.Message.Tagged.marked g.B.Body.takes_back c.args.links.now c.loop.links c.args.acts.now c.hand_back.new.acts c.args.body.now c.hand_back.new.body) c.from_residual.ensures.1
+    (posts_until g.B.Message.Tagged.letter g.B.Message.Tagged.marked g.B.Body.takes_back stop.NoMemory c.args.links.now c.loop.links c.loop.links c.args.acts.now c.loop.acts c.hand_back.new.acts c.args.body.now c.loop.body c.hand_back.new.body i.returned i.went
+    (cut_back c.args.links.now.thread g.B.Message.Tagged.letter g.B.Message.Tagged.marked g.B.Body.takes_back c.loop.links c.loop.acts c.hand_back.new.acts c.loop.body c.hand_back.new.body c.in_err-hand_back.ensures.kept))
+
+pub returns-in_err-send_on-clause-until : goal.returns-in_err-send_on-clause-until
+returns-in_err-send_on-clause-until g c =
+    let i = c.loop.invariant in
+    let why = c.in_err-send_on.field-0.0 in
+    for_reason c.from_residual-in_err-send_on.result why (PostsUntil g.B.Message.Tagged.letter g.B.Message.Tagged.marked g.B.Body.takes_back c.args.links.now c.send_on.new.links c.args.acts.now c.send_on.new.acts c.args.body.now c.loop.body) c.from_residual-in_err-send_on.ensures.1
+    (posts_until g.B.Message.Tagged.letter g.B.Message.Tagged.marked g.B.Body.takes_back why c.args.links.now c.loop.links c.send_on.new.links c.args.acts.now c.loop.acts c.send_on.new.acts c.args.body.now c.loop.body c.loop.body i.returned i.went
+    (ends_there c.args.links.now.thread g.B.Message.Tagged.letter g.B.Message.Tagged.marked g.B.Body.takes_back why c.loop.links c.send_on.new.links c.loop.acts c.send_on.new.acts c.loop.body c.in_err-send_on.ensures.wait))

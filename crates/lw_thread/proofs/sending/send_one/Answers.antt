@@ -1,4 +1,4 @@
-use Rattle.std.proofs.Common.{◌<◌, [], length, sym, ap, subst, ◌∙◌, All, None}
+use Rattle.std.proofs.Common.{◌<◌, [], length, sym, ap, subst, ◌∙◌, All, None, inl, inr}
 use Rattle.std.specs.Prelude.{slice_index_or}
 use Rattle.std.proofs.lemmas.List.Elements.{All-head}
 use Rattle.lw_base.specs.Letters.{FitsRing}
@@ -6,7 +6,10 @@ use Rattle.lw_ring.specs.Ends.{Sender}
 use Rattle.lw_thread.specs.Acts.{Post}
 use Rattle.lw_thread.specs.Links.{Tied}
 use Rattle.lw_thread.specs.Refused.{AfterSend}
+use Rattle.lw_thread.specs.declared.stop.Stop.TheVariants as stop
+use Rattle.lw_thread.specs.Posting.{StillWait}
 use Rattle.lw_thread.proofs.Making.{sent_one, back_one, grows_still, fits_ring}
+use Rattle.lw_thread.proofs.Waits.{for_reason, lost_one, one_again, all_wait}
 use Rattle.lw_thread.proofs.sending.send_one.Goals as goal
 
 pub send-requires-clause-fits : goal.send-requires-clause-fits
@@ -47,3 +50,45 @@ returns-in_ok-put_first-in-Err-Spent-clause-stop g c =
       c.next_number.ensures d ∙ ap (λ es. length (slice_index_or es to d).sent) ends ∙ r.1 d,
       λ e. sym (c.next_number.ensures e),
     )
+
+pub returns-in_err-put_first-in-Err-Exited-clause-wait : goal.returns-in_err-put_first-in-Err-Exited-clause-wait
+returns-in_err-put_first-in-Err-Exited-clause-wait g c =
+    let to = c.in-Some.field-0.to in
+    let m = c.in-Some.field-0.message in
+    let r = subst (λ f. AfterSend g.M.Tagged.letter g.M.Tagged.marked g.M.Tagged.fits to m c.args.links.now c.send.new.self f) c.in-Err-Exited.field-0-is c.in-Err-Exited.ensures.refused in
+    for_reason c.from_residual.result stop.NoMemory (StillWait g.M.Tagged.letter c.args.links.now c.send.new.self c.args.acts.now c.put_first.new.self) c.from_residual.ensures.1
+    (lost_one c.args.links.now c.send.new.self c.args.acts.now c.next_send.new.self c.put_first.new.self to m c.in-Some.ensures.first c.in_err-put_first-in-Err-Exited.ensures.same (inr r.1))
+
+pub returns-in_err-put_first-in-Err-NoMemory-clause-wait : goal.returns-in_err-put_first-in-Err-NoMemory-clause-wait
+returns-in_err-put_first-in-Err-NoMemory-clause-wait g c =
+    let to = c.in-Some.field-0.to in
+    let m = c.in-Some.field-0.message in
+    let r = subst (λ f. AfterSend g.M.Tagged.letter g.M.Tagged.marked g.M.Tagged.fits to m c.args.links.now c.send.new.self f) c.in-Err-NoMemory.field-0-is c.in-Err-NoMemory.ensures.refused in
+    for_reason c.from_residual-in_err-put_first-in-Err-NoMemory.result stop.NoMemory (StillWait g.M.Tagged.letter c.args.links.now c.send.new.self c.args.acts.now c.put_first-in-Err-NoMemory.new.self) c.from_residual-in_err-put_first-in-Err-NoMemory.ensures.1
+    (lost_one c.args.links.now c.send.new.self c.args.acts.now c.next_send.new.self c.put_first-in-Err-NoMemory.new.self to m c.in-Some.ensures.first c.in_err-put_first-in-Err-NoMemory.ensures.same (inl r.1))
+
+pub returns-in_err-put_first-in-Err-Spent-clause-wait : goal.returns-in_err-put_first-in-Err-Spent-clause-wait
+returns-in_err-put_first-in-Err-Spent-clause-wait g c =
+    let to = c.in-Some.field-0.to in
+    let m = c.in-Some.field-0.message in
+    let r = subst (λ f. AfterSend g.M.Tagged.letter g.M.Tagged.marked g.M.Tagged.fits to m c.args.links.now c.send.new.self f) c.in-Err-Spent.field-0-is c.in-Err-Spent.ensures.refused in
+    for_reason c.from_residual-in_err-put_first-in-Err-Spent.result stop.NoMemory (StillWait g.M.Tagged.letter c.args.links.now c.send.new.self c.args.acts.now c.put_first-in-Err-Spent.new.self) c.from_residual-in_err-put_first-in-Err-Spent.ensures.1
+    (lost_one c.args.links.now c.send.new.self c.args.acts.now c.next_send.new.self c.put_first-in-Err-Spent.new.self to m c.in-Some.ensures.first c.in_err-put_first-in-Err-Spent.ensures.same (inl r.2))
+
+pub returns-in_ok-put_first-in-Err-NoMemory-clause-wait : goal.returns-in_ok-put_first-in-Err-NoMemory-clause-wait
+returns-in_ok-put_first-in-Err-NoMemory-clause-wait g c =
+    let to = c.in-Some.field-0.to in
+    let m = c.in-Some.field-0.message in
+    let r = subst (λ f. AfterSend g.M.Tagged.letter g.M.Tagged.marked g.M.Tagged.fits to m c.args.links.now c.send.new.self f) c.in-Err-NoMemory.field-0-is c.in-Err-NoMemory.ensures.refused in
+    let again = c.in_ok-put_first-in-Err-NoMemory.ensures.first in
+    one_again c.args.links.now c.send.new.self c.args.acts.now c.next_send.new.self c.put_first-in-Err-NoMemory.new.self to m again.0 c.in-Some.ensures.first again.3 r.1
+
+pub returns-in_ok-put_first-in-Err-Spent-clause-wait : goal.returns-in_ok-put_first-in-Err-Spent-clause-wait
+returns-in_ok-put_first-in-Err-Spent-clause-wait g c =
+    let to = c.in-Some.field-0.to in
+    let m = c.in-Some.field-0.message in
+    let s = c.in-Some.ensures in
+    let r = subst (λ f. AfterSend g.M.Tagged.letter g.M.Tagged.marked g.M.Tagged.fits to m c.args.links.now c.send.new.self f) c.in-Err-Spent.field-0-is c.in-Err-Spent.ensures.refused in
+    let again = c.in_ok-put_first-in-Err-Spent.ensures.first in
+    all_wait g.M.Tagged.letter c.args.links.now c.send.new.self c.args.acts.now c.next_send.new.self c.put_first-in-Err-Spent.new.self to m again.0 s.first again.3
+    (again.1 ∙ ap (λ x. g.M.Tagged.marked x 0 0) r.0.same_letter ∙ g.met.M.Tagged.marked_last (g.M.Tagged.letter m) c.args.links.now.thread r.0.number 0 0 ∙ sym s.kept.1) r.2

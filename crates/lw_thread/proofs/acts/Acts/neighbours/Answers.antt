@@ -7,10 +7,11 @@ use Rattle.lw_thread.specs.Acts.{ActsEnd}
 use Rattle.lw_thread.proofs.Asking.{neighbours_more, neighbours_end, neighbours_all, neighbours_most}
 use Rattle.lw_thread.proofs.acts.Acts.neighbours.Goals as goal
 
-pub returns-then-place-most : goal.returns-then-place-most
-returns-then-place-most g c =
+pub returns-then-place-most-clause-all : goal.returns-then-place-most-clause-all
+returns-then-place-most-clause-all g c =
     let i = c.loop-place.invariant in
-    neighbours_most c.args.self.now.pending c.args.to c.loop-place.place c.args.most i.0 i.2 c.if-place-most.true
+    let first = neighbours_most c.args.self.now.pending c.args.to c.loop-place.place c.args.most i.0 i.2 c.if-place-most.true in
+    omega arith
 
 pub returns-then-not-goes_to : goal.returns-then-not-goes_to
 returns-then-not-goes_to g c =

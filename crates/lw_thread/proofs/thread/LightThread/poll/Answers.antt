@@ -1,7 +1,7 @@
 use Rattle.std.proofs.Common.{◌≡◌, [], ap, ◌∙◌}
 use Rattle.lw_thread.specs.Threads.{Thread}
 use Rattle.lw_thread.specs.Posting.{IsGoing}
-use Rattle.lw_thread.proofs.Results.{polled_kept, took_parts, polls_stopped, polls_whole}
+use Rattle.lw_thread.proofs.Results.{polled_kept, took_parts, polls_came, polls_stopped, polls_whole}
 use Rattle.lw_thread.proofs.thread.LightThread.poll.Goals as goal
 
 pub invariant_of-self : goal.invariant_of-self
@@ -25,3 +25,9 @@ returns-clause-stopped g c =
     let p = c.poll_parts-outcome in
     let s = c.self.inside in
     polls_stopped g.B.Message.Tagged.letter g.B.Message.Tagged.tag_of g.B.Message.Tagged.fits g.B.Message.Tagged.marked g.B.Body.runs g.B.Body.ticks g.B.Body.takes_back p.result c.args.now s.links p.new.links s.acts p.new.acts s.body p.new.body s.seat s.load s.trail.items s.stopped c.is_err-self-inside.result c.args.self.now c.is_err-self-inside.ensures.value c.self.view_is p.ensures.stop
+
+pub returns-clause-came : goal.returns-clause-came
+returns-clause-came g c =
+    let p = c.poll_parts-outcome in
+    let s = c.self.inside in
+    polls_came g.B.Message.Tagged.letter g.B.Message.Tagged.tag_of g.B.Message.Tagged.fits g.B.Message.Tagged.marked g.B.Body.runs g.B.Body.ticks g.B.Body.takes_back p.result c.args.now s.links p.new.links s.acts p.new.acts s.body p.new.body s.seat s.load s.trail.items s.stopped c.is_err-self-inside.result c.args.self.now c.self.invariant.0 c.self.view_is p.ensures.came
