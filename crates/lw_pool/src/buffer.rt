@@ -8,11 +8,12 @@ use crate::queue::Pass;
 use std::marker::Model;
 use std::snapshot::Snapshot;
 
-/// A buffer of 8,192 or of 135,168 bytes. It goes back to the pool that it was taken from.
+/// A buffer of 8,192 or of 135,168 bytes. It goes back to the pool that it was taken from. The value is 32 bytes itself: the
+/// vector of its bytes is 24, the filled length 4 and the class 1.
 #[derive(Drop)]
 pub struct Buffer {
     pub(crate) bytes: Vec<u8>,
-    pub(crate) filled: usize,
+    pub(crate) filled: u32,
     pub(crate) class: Class,
     // A pass of the buffer's queue. Contracts alone see it.
     pub(crate) mark: Snapshot<Pass>,
@@ -54,7 +55,7 @@ impl Buffer {
         ensures bytes { result.now ≡ take len self.old.bytes }
         ensures length { length result.now ≡ len }
     {
-        self.filled = len;
+        self.filled = len as u32;
         self.filled_mut()
     }
 
@@ -64,7 +65,7 @@ impl Buffer {
         ensures value { result.now ≡ filled_bytes self.old }
         ensures length { length result.now ≡ self.old.filled }
     {
-        self.bytes.slice_mut(..self.filled)
+        self.bytes.slice_mut(..self.filled as usize)
     }
 
     /// The filled bytes.
@@ -72,6 +73,6 @@ impl Buffer {
         ensures bytes { result.now ≡ filled_bytes self.now }
         ensures length { length result.now ≡ self.now.filled }
     {
-        &self.bytes[..self.filled]
+        &self.bytes[..self.filled as usize]
     }
 }

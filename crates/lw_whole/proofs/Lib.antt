@@ -38,6 +38,9 @@ pub mod NoteSums
 pub mod WhoBegan
 pub mod DeviceLines
 pub mod Devices
+pub mod Unsent
+pub mod OwnerLogs
+pub mod OwnerEnds
 pub mod NineRules
 pub mod ScriptOps
 pub mod HasText

@@ -6,7 +6,7 @@ use Rattle.lw_base.specs.declared.message.What.{What}
 use Rattle.lw_model.specs.declared.record.Replied.{Replied}
 use Rattle.lw_model.specs.Same.{is_same_what, is_same_replied, is_same_mark}
 use Rattle.lw_model.proofs.Sameness.{Tells-what, Tells-replied, Tells-mark}
-use Rattle.lw_whole.specs.Letters.{Note, Load, nothing, answered, marked, reached, row, Letter}
+use Rattle.lw_whole.specs.Letters.{Note, Load, nothing, asked, answered, marked, reached, row, Letter}
 
 -- the test tells what is the same
 abbrev pub Tells : {X : Type 0} → (X → X → Bool) → Type 0
@@ -76,6 +76,7 @@ tells_row ns ms e = tells_list same_note tells_note ns ms e
 
 abbrev pub same_load : Load → Load → Bool
 same_load nothing nothing = true
+same_load (asked a) (asked b) = a == b
 same_load (answered a) (answered b) = is_same_replied a b
 same_load (marked xs) (marked ys) = same_list is_same_mark xs ys
 same_load (reached xs) (reached ys) = same_numbers xs ys
@@ -85,6 +86,8 @@ same_load _ _ = false
 pub tells_load : Tells same_load
 tells_load nothing nothing e = refl
 tells_load nothing y e = absurd (false≢true e)
+tells_load (asked a) (asked b) e = ap asked (eqb-true a b e)
+tells_load (asked a) y e = absurd (false≢true e)
 tells_load (answered a) (answered b) e = ap answered ((Tells-replied a b).0 e)
 tells_load (answered a) y e = absurd (false≢true e)
 tells_load (marked xs) (marked ys) e = ap marked (tells_list is_same_mark (λ x y f. (Tells-mark x y).0 f) xs ys e)

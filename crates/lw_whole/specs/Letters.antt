@@ -14,10 +14,11 @@ pub record Note : Type 0 where
   pub began_by : ℕ
   pub fired : ℕ
 
--- what a message carries: a reply its answer, a visit and its completion the marks so far, a cast and its completion the
--- threads so far, a Done the row of its client, a note a device
+-- what a message carries: a request the client in whose name it asks, a reply its answer, a visit and its completion the marks
+-- so far, a cast and its completion the threads so far, a Done the row of its client, a note a device
 pub data Load : Type 0 where
   nothing : Load
+  asked : ℕ → Load
   answered : Replied → Load
   marked : List Mark → Load
   reached : List ℕ → Load

@@ -6,4 +6,6 @@ pub mod Sends
 pub mod Notes
 pub mod Lines
 pub mod Threads
+pub mod Unsent
+pub mod Owners
 pub mod WholeRun

@@ -3,4 +3,4 @@
 
 mod lawful;
 
-pub use lawful::{threads_have_a_text, whole_runs_are_lawful};
+pub use lawful::{owners_end, threads_have_a_text, whole_runs_are_lawful};
