@@ -1,0 +1,13 @@
+pub mod Unused
+pub mod Replying
+pub mod Parts
+pub mod Adding
+pub mod Fitting
+pub mod Logging
+pub mod Keeping
+pub mod Doing
+pub mod Running
+pub mod Called
+pub mod Answering
+pub mod Leaving
+pub mod Beginning

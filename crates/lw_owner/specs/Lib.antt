@@ -1,0 +1,4 @@
+pub mod Serving
+pub mod Handling
+pub mod Keeping
+pub mod Leaving
