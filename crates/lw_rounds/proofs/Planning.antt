@@ -1,9 +1,8 @@
 -- Where the orders of a plan send the threads.
-use Rattle.std.proofs.Common.{◌≡◌, ◌≢◌, ℕ, zero, suc, ◌+◌, ◌-◌, ◌<◌, ◌≤◌, ◌==◌, nat_lt, nat_le, Bool, true, false, cond, List, [], ◌∷◌, ◌++◌, length, get_or, filter, find, filter_map, zip, Option, None, Some, unwrap_or, All, Contains, refl, sym, ap, subst, ◌∙◌, arith}
+use Rattle.std.proofs.Common.{◌≡◌, ℕ, zero, suc, ◌+◌, ◌-◌, ◌<◌, ◌≤◌, ◌==◌, nat_lt, nat_le, Bool, true, false, cond, List, [], ◌∷◌, ◌++◌, length, get_or, find, filter_map, zip, None, Some, unwrap_or, All, refl, sym, subst, arith}
 use Rattle.std.specs.List.{range_with_len, cons_option, list_all}
-use Rattle.std.proofs.lemmas.Bool.{eqb-true, eq-eqb}
+use Rattle.std.proofs.lemmas.Bool.{eq-eqb}
 use Rattle.std.proofs.lemmas.List.Elements.{All-nil, All-cons, All-head, All-tail, All-weaker, All-append, All-filter, All-contains}
-use Rattle.lw_base.proofs.Lists.{some_same}
 use Rattle.lw_base.specs.Limits.{standard}
 use Rattle.lw_base.specs.Masks.{allows, allowed}
 use Rattle.lw_base.specs.declared.moves.Limits.{Limits}
@@ -11,7 +10,7 @@ use Rattle.lw_base.specs.declared.moves.Row.{Row}
 use Rattle.lw_base.specs.declared.moves.Order.{Order}
 use Rattle.lw_base.specs.declared.moves.Round.{Round}
 use Rattle.lw_base.specs.Plan.{load, core_load, planned, targets, with_room, least_planned, stays, choice, choices, order_of, plan}
-use Rattle.lw_rounds.specs.Rounds.{BalancerEnd, IsRound, Sends, masks_of}
+use Rattle.lw_rounds.specs.Rounds.{BalancerEnd, AreAfter, AreRounds, IsRound, Sends, masks_of}
 
 range_below : (n m : ℕ) → All (λ c. c < n + m) (range_with_len n m)
 range_below n zero = All-nil (λ c. c < n + 0)
@@ -110,6 +109,16 @@ plan_sends limits reactors rows masks some_reactors all = orders_sent reactors r
 pub round_sends : (b : BalancerEnd) (first : ℕ) (past : List Round) (x : Round) → 1 ≤ b.reactors → IsRound b first past x → All (Sends b.reactors x.rows) x.orders
 round_sends b first past x some_reactors r = subst (All (Sends b.reactors x.rows)) (sym r.orders)
     (plan_sends standard b.reactors x.rows (masks_of b.masks x.rows) some_reactors r.reactors)
+
+after_send : (b : BalancerEnd) (first : ℕ) (past xs : List Round) → 1 ≤ b.reactors → AreAfter b first past xs → (k : ℕ) (d : Round) → k < length xs
+    → All (Sends b.reactors (get_or xs k d).rows) (get_or xs k d).orders
+after_send b first past [] some_reactors a k d l = absurd (omega arith)
+after_send b first past (x ∷ xs) some_reactors a zero d l = round_sends b first past x some_reactors a.0
+after_send b first past (x ∷ xs) some_reactors a (suc k) d l = after_send b first (past ++ x ∷ []) xs some_reactors a.1 k d (omega arith)
+
+-- each order of each round sends a thread of its rows
+pub rounds_send : (b : BalancerEnd) → 1 ≤ b.reactors → AreRounds b → All (λ (x : Round). All (Sends b.reactors x.rows) x.orders) b.rounds
+rounds_send b some_reactors h = λ k d l. (let a = h.1 (omega arith) in after_send b a.0 [] b.rounds some_reactors a.2 k d l)
 
 -- where each row of an order's thread stands on a reactor, that is the reactor of the order's row, and one of the reactors
 pub sent_from : (reactors : ℕ) (rows : List Row) (o : Order) (at : ℕ) (s : Sends reactors rows o) → All (λ (w : Row). w.reactor < reactors) rows

@@ -1,5 +1,5 @@
 -- A round follows the rounds before it.
-use Rattle.std.proofs.Common.{◌≡◌, ◌≢◌, ◌⊎◌, ℕ, zero, suc, ◌+◌, ◌-◌, ◌<◌, ◌≤◌, List, [], ◌∷◌, ◌++◌, length, map, get_or, slice_get, filter_map, Option, None, Some, unwrap_or, All, Bool, true, false, nat_le, nat_lt, inl, inr, refl, sym, ap, subst, ◌∙◌, arith, ⊎_elim, le_refl}
+use Rattle.std.proofs.Common.{◌≡◌, ℕ, zero, suc, ◌+◌, ◌-◌, ◌<◌, ◌≤◌, List, [], ◌∷◌, ◌++◌, length, map, get_or, slice_get, filter_map, Option, None, Some, unwrap_or, All, Bool, true, false, nat_le, nat_lt, inl, inr, refl, sym, ap, subst, ◌∙◌, arith, ⊎_elim, le_refl}
 use Rattle.std.specs.Prelude.{IfSome}
 use Rattle.std.specs.List.{range_with_len, cons_option}
 use Rattle.std.proofs.lemmas.Bool.{cases_lt, cases_Bool, leb-true, ltb-true, le-leb, lt-ltb}
@@ -12,8 +12,8 @@ use Rattle.lw_place.specs.declared.place.Place.{Place}
 use Rattle.lw_place.specs.declared.place.Place.TheVariants as place
 use Rattle.lw_place.specs.PlaceWord.{IsBelow}
 use Rattle.lw_place.specs.PlaceSeats.{DeskEnd}
-use Rattle.lw_load.specs.LoadEnds.{Known}
-use Rattle.lw_rounds.specs.Measures.{Look, row_in, row_of, Measures, MeasuresRows}
+use Rattle.lw_load.specs.declared.figures.Figures.{Figures}
+use Rattle.lw_rounds.specs.Measures.{Look, MeterEnd, measured_of, row_in, row_of, Measures, MeasuresRows}
 use Rattle.lw_rounds.specs.Rounds.{BalancerEnd, last_time, last_rows, most_rounds, IsNotBefore, IsDue, Ascend, IsRound, AreAfter, AreRounds, AreNoted, KeepsRounds, round_of}
 
 -- ---- the last round
@@ -75,13 +75,13 @@ rows_apart n (suc i) (suc j) v w (x ∷ xs) a l m = rows_apart (x.thread + 1) i 
 
 -- ---- the rows of looks
 
-row_thread : (t : ℕ) (p : Place) (before after : Known) (w : Row) → row_in t p before after ≡ Some w → w.thread ≡ t
+row_thread : (t : ℕ) (p : Place) (before after : Figures) (w : Row) → row_in t p before after ≡ Some w → w.thread ≡ t
 row_thread t (place.List reactor) before after w e = sym (ap (λ (r : Row). r.thread) (some_same e))
 row_thread t (place.Event reactor) before after w e = cc
 row_thread t (place.Held reactor) before after w e = cc
 row_thread t place.Ended before after w e = cc
 
-row_reactor : (reactors t : ℕ) (p : Place) (before after : Known) (w : Row) → IsBelow reactors p → row_in t p before after ≡ Some w → w.reactor < reactors
+row_reactor : (reactors t : ℕ) (p : Place) (before after : Figures) (w : Row) → IsBelow reactors p → row_in t p before after ≡ Some w → w.reactor < reactors
 row_reactor reactors t (place.List reactor) before after w l e = subst (λ c. c < reactors) (ap (λ (r : Row). r.reactor) (some_same e)) l
 row_reactor reactors t (place.Event reactor) before after w l e = cc
 row_reactor reactors t (place.Held reactor) before after w l e = cc
@@ -95,7 +95,7 @@ rows_ascend : (n m : ℕ) (looks : List Look) → map (λ (l : Look). l.thread) 
 rows_ascend n m [] e = tt
 rows_ascend n zero (l ∷ ls) e = cc
 rows_ascend n (suc m) (l ∷ ls) e = in_front n (row_of l) (filter_map row_of ls)
-    (λ w is. row_thread l.thread l.place l.before l.after w is ∙ heads e)
+    (λ w is. row_thread l.thread l.place l.last (measured_of l) w is ∙ heads e)
     (rows_ascend (n + 1) m ls (tails e))
 
 kept : (P : Row → Type 0) (o : Option Row) (rows : List Row) → ((w : Row) → o ≡ Some w → P w) → All P rows → All P (cons_option o rows)
@@ -131,34 +131,34 @@ pub record AreRows (threads reactors : ℕ) (rows : List Row) : Type 0 where
   pub threads_below : All (λ (w : Row). w.thread < threads) rows
   pub reactors_below : All (λ (w : Row). w.reactor < reactors) rows
 
-pub measured_rows : (old new : List Known) (desk desk_after : DeskEnd) (looks : List Look) → Measures old new desk desk_after looks
-    → AreRows (length old) desk.places.reactors (filter_map row_of looks)
+pub measured_rows : (old new : MeterEnd) (desk desk_after : DeskEnd) (looks : List Look) → Measures old new desk desk_after looks
+    → AreRows (length old.cells) desk.places.reactors (filter_map row_of looks)
 measured_rows old new desk desk_after looks m =
-    let n = length old in
+    let n = length old.cells in
     record {
       few = (let a = rows_few looks in let b = length-map looks (λ (l : Look). l.before) in let c = ap length m.before in omega arith);
       ascend = rows_ascend 0 n looks m.threads;
       threads_below = rows_all (λ (w : Row). w.thread < n) looks
           (All-weaker (λ (l : Look). l.thread < 0 + n) (λ (l : Look). (w : Row) → row_of l ≡ Some w → w.thread < n)
-          (λ l less w is. (let same = row_thread l.thread l.place l.before l.after w is in omega arith)) looks (threads_below 0 n looks m.threads));
+          (λ l less w is. (let same = row_thread l.thread l.place l.last (measured_of l) w is in omega arith)) looks (threads_below 0 n looks m.threads));
       reactors_below = rows_all (λ (w : Row). w.reactor < desk.places.reactors) looks
           (All-weaker (λ (l : Look). IsBelow desk.places.reactors l.place) (λ (l : Look). (w : Row) → row_of l ≡ Some w → w.reactor < desk.places.reactors)
-          (λ l below w is. row_reactor desk.places.reactors l.thread l.place l.before l.after w below is) looks m.below);
+          (λ l below w is. row_reactor desk.places.reactors l.thread l.place l.last (measured_of l) w below is) looks m.below);
     }
 
 -- ---- one round more
 
 -- a balancer of the same run, in which other rounds were made
-abbrev pub later_on : BalancerEnd → List Known → Option ℕ → List Round → BalancerEnd
-later_on b cells first rounds = record b { cells = cells; first = first; rounds = rounds }
+abbrev pub later_on : BalancerEnd → MeterEnd → Option ℕ → List Round → BalancerEnd
+later_on b meter first rounds = record b { meter = meter; first = first; rounds = rounds }
 
-after_later : (b : BalancerEnd) (cells : List Known) (noted : Option ℕ) (rounds : List Round) (first : ℕ) (past xs : List Round)
-    → AreAfter b first past xs → AreAfter (later_on b cells noted rounds) first past xs
-after_later b cells noted rounds first past [] a = tt
-after_later b cells noted rounds first past (x ∷ xs) a =
+after_later : (b : BalancerEnd) (meter : MeterEnd) (noted : Option ℕ) (rounds : List Round) (first : ℕ) (past xs : List Round)
+    → AreAfter b first past xs → AreAfter (later_on b meter noted rounds) first past xs
+after_later b meter noted rounds first past [] a = tt
+after_later b meter noted rounds first past (x ∷ xs) a =
     let r = a.0 in (
       record { number = r.number; time = r.time; ascend = r.ascend; threads = r.threads; reactors = r.reactors; orders = r.orders },
-      after_later b cells noted rounds first (past ++ x ∷ []) xs a.1,
+      after_later b meter noted rounds first (past ++ x ∷ []) xs a.1,
     )
 
 after_push : (b : BalancerEnd) (first : ℕ) (past xs : List Round) (x : Round) → AreAfter b first past xs → IsRound b first (past ++ xs) x
@@ -199,32 +199,32 @@ due_iff now first last b due answer noted last_is past due_is then_is else_is = 
 
 -- ---- what a balancer keeps
 
-are_rounds_later : (b : BalancerEnd) (cells : List Known) → AreRounds b → AreRounds (record b { cells = cells })
-are_rounds_later b cells h = (
+are_rounds_later : (b : BalancerEnd) (meter : MeterEnd) → AreRounds b → AreRounds (record b { meter = meter })
+are_rounds_later b meter h = (
   h.0,
-  λ some_round. (let x = h.1 some_round in (x.0, x.1, after_later b cells b.first b.rounds x.0 [] b.rounds x.2)),
+  λ some_round. (let x = h.1 some_round in (x.0, x.1, after_later b meter b.first b.rounds x.0 [] b.rounds x.2)),
 )
 
 -- it keeps it where figures were read
-pub keeps_read : (stands : List ℕ) (b : BalancerEnd) (cells : List Known) → length cells ≡ length b.cells → KeepsRounds stands b → KeepsRounds stands (record b { cells = cells })
-keeps_read stands b cells same k = record {
+pub keeps_read : (stands : List ℕ) (b : BalancerEnd) (meter : MeterEnd) → length meter.cells ≡ length b.meter.cells → KeepsRounds stands b → KeepsRounds stands (record b { meter = meter })
+keeps_read stands b meter same k = record {
   some_reactors = k.some_reactors;
   few_reactors = k.few_reactors;
   count = k.count ∙ sym same;
   few = k.few;
   period = k.period;
-  rounds = are_rounds_later b cells k.rounds;
+  rounds = are_rounds_later b meter k.rounds;
   places = k.places;
   noted = k.noted;
 }
 
 -- the rows of a round, of so many threads and reactors
-pub rows_of : (old new : List Known) (desk desk_after : DeskEnd) (rows : List Row) (threads reactors : ℕ) → threads ≡ length old → reactors ≡ desk.places.reactors
+pub rows_of : (old new : MeterEnd) (desk desk_after : DeskEnd) (rows : List Row) (threads reactors : ℕ) → threads ≡ length old.cells → reactors ≡ desk.places.reactors
     → MeasuresRows old new desk desk_after rows → AreRows threads reactors rows
 rows_of old new desk desk_after rows threads reactors n r m =
     subst (λ (ws : List Row). AreRows threads reactors ws) (sym m.rows_are)
     (subst (λ t. AreRows t reactors (filter_map row_of m.looks)) (sym n)
-    (subst (λ c. AreRows (length old) c (filter_map row_of m.looks)) (sym r) (measured_rows old new desk desk_after m.looks m.measured)))
+    (subst (λ c. AreRows (length old.cells) c (filter_map row_of m.looks)) (sym r) (measured_rows old new desk desk_after m.looks m.measured)))
 
 -- the round of such rows follows those before it
 pub is_round : (now : ℕ) (b : BalancerEnd) (rows : List Row) (due : IsDue now b) → AreRows (length b.masks) b.reactors rows
@@ -239,9 +239,9 @@ is_round now b rows due r = record {
 }
 
 -- all rounds with this one more
-pub are_rounds_push : (now : ℕ) (b : BalancerEnd) (rows : List Row) (cells : List Known) → IsDue now b → AreRows (length b.masks) b.reactors rows → AreRounds b
-    → AreRounds (record b { cells = cells; rounds = b.rounds ++ round_of now b rows ∷ [] })
-are_rounds_push now b rows cells due r h =
+pub are_rounds_push : (now : ℕ) (b : BalancerEnd) (rows : List Row) (meter : MeterEnd) → IsDue now b → AreRows (length b.masks) b.reactors rows → AreRounds b
+    → AreRounds (record b { meter = meter; rounds = b.rounds ++ round_of now b rows ∷ [] })
+are_rounds_push now b rows meter due r h =
     let x = round_of now b rows in
     let all = b.rounds ++ x ∷ [] in
     let many = length_push b.rounds x in
@@ -250,7 +250,7 @@ are_rounds_push now b rows cells due r h =
       λ _. (
         due.first,
         due.noted,
-        after_later b cells b.first all due.first [] all
+        after_later b meter b.first all due.first [] all
             (after_push b due.first [] b.rounds x (before b h due.first due.noted) (is_round now b rows due r)),
       ),
     )
@@ -263,16 +263,16 @@ are_rounds_push now b rows cells due r h =
         go (x ∷ xs) all = (let a = all (omega arith) in subst (λ f. AreAfter b f [] (x ∷ xs)) (some_same (sym a.1 ∙ noted)) a.2)
 
 -- a balancer keeps it once this round was made, and its threads were noted
-pub keeps_made : (now : ℕ) (stands stands_after : List ℕ) (b : BalancerEnd) (rows : List Row) (cells : List Known) → IsDue now b → AreRows (length b.masks) b.reactors rows
-    → length cells ≡ length b.cells → length stands_after ≡ length stands → AreNoted stands_after rows → KeepsRounds stands b
-    → KeepsRounds stands_after (record b { cells = cells; rounds = b.rounds ++ round_of now b rows ∷ [] })
-keeps_made now stands stands_after b rows cells due r same places noted k = record {
+pub keeps_made : (now : ℕ) (stands stands_after : List ℕ) (b : BalancerEnd) (rows : List Row) (meter : MeterEnd) → IsDue now b → AreRows (length b.masks) b.reactors rows
+    → length meter.cells ≡ length b.meter.cells → length stands_after ≡ length stands → AreNoted stands_after rows → KeepsRounds stands b
+    → KeepsRounds stands_after (record b { meter = meter; rounds = b.rounds ++ round_of now b rows ∷ [] })
+keeps_made now stands stands_after b rows meter due r same places noted k = record {
   some_reactors = k.some_reactors;
   few_reactors = k.few_reactors;
   count = k.count ∙ sym same;
   few = k.few;
   period = k.period;
-  rounds = are_rounds_push now b rows cells due r k.rounds;
+  rounds = are_rounds_push now b rows meter due r k.rounds;
   places = places ∙ k.places;
   noted = subst (AreNoted stands_after) (sym (last_rows_push b.rounds (round_of now b rows))) noted;
 }

@@ -1,25 +1,25 @@
 -- The rounds of a run, as a balancer makes them.
-use Rattle.std.specs.Prelude.{◌≡◌, ◌≢◌, ℕ, ◌+◌, ◌<◌, ◌≤◌, List, [], ◌∷◌, ◌++◌, length, map, filter_map, Option, None, Some, IfSome, All, Contains, slice_index, ⊤}
+use Rattle.std.specs.Prelude.{◌≡◌, ◌≢◌, ℕ, ◌+◌, ◌<◌, ◌≤◌, List, [], ◌∷◌, ◌++◌, length, map, filter_map, Option, Some, IfSome, All, Contains, slice_index, ⊤}
 use Rattle.lw_base.specs.Limits.{standard}
 use Rattle.lw_base.specs.Plan.{plan}
 use Rattle.lw_base.specs.declared.moves.Row.{Row}
 use Rattle.lw_base.specs.declared.moves.Order.{Order}
 use Rattle.lw_base.specs.declared.moves.Round.{Round}
 use Rattle.lw_place.specs.PlaceSeats.{DeskEnd}
-use Rattle.lw_load.specs.LoadEnds.{Known, most_threads}
-use Rattle.lw_rounds.specs.Measures.{Look, Measures, row_of}
+use Rattle.lw_load.specs.LoadEnds.{most_threads}
+use Rattle.lw_rounds.specs.Measures.{HasRead, Look, MeterEnd, Measures, row_of}
 
 -- a run has at most so many rounds
 abbrev pub most_rounds : ℕ
 most_rounds = 10000
 
--- a balancer: of how many reactors, the masks of the threads, the period, what is known of each thread's figures, the first
--- reading, and the rounds that were made
+-- a balancer: of how many reactors, the masks of the threads, the period, what it measures by, the first reading, and the
+-- rounds that were made
 pub record BalancerEnd : Type 0 where
   pub reactors : ℕ
   pub masks : List ℕ
   pub period : ℕ
-  pub cells : List Known
+  pub meter : MeterEnd
   pub first : Option ℕ
   pub rounds : List Round
 
@@ -86,13 +86,13 @@ round_of now b rows = record { number = length b.rounds + 1; time = now; rows = 
 -- One round more was made: of what this round's looks found and read.
 pub record Makes (now : ℕ) (old new : BalancerEnd) (desk desk_after : DeskEnd) : Type 0 where
   pub looks : List Look
-  pub measured : Measures old.cells new.cells desk desk_after looks
-  pub made : new ≡ record old { cells = new.cells; rounds = old.rounds ++ round_of now old (filter_map row_of looks) ∷ [] }
+  pub measured : Measures old.meter new.meter desk desk_after looks
+  pub made : new ≡ record old { meter = new.meter; rounds = old.rounds ++ round_of now old (filter_map row_of looks) ∷ [] }
 
--- figures may have been read, and nothing else has changed
+-- each thread may have been measured, its cell read once more, and nothing else has changed
 pub record HasOnlyRead (old new : BalancerEnd) : Type 0 where
-  pub same : new ≡ record old { cells = new.cells }
-  pub count : length new.cells ≡ length old.cells
+  pub same : new ≡ record old { meter = new.meter }
+  pub read : HasRead old.meter.cells new.meter.cells
 
 -- each thread that has a row is noted to stand where the row says
 abbrev pub AreNoted : List ℕ → List Row → Type 0
@@ -102,7 +102,7 @@ AreNoted stands rows = All (λ w. slice_index stands w.thread ≡ w.reactor) row
 pub record KeepsRounds (stands : List ℕ) (b : BalancerEnd) : Type 0 where
   pub some_reactors : 1 ≤ b.reactors
   pub few_reactors : b.reactors ≤ 16
-  pub count : length b.masks ≡ length b.cells
+  pub count : length b.masks ≡ length b.meter.cells
   pub few : length b.masks ≤ most_threads
   pub period : 1 ≤ b.period
   pub rounds : AreRounds b

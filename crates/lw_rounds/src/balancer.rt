@@ -1,12 +1,12 @@
 //! All rounds of a run, the one that comes next, and when it is due.
 ghost use Rattle.std.specs.Prelude.{◌≡◌, ◌↔◌, ◌<◌, ◌≤◌, IsTrue, None, Some, [], length, unwrap_or, All, IfOk, OnErr};
 ghost use Rattle.lw_load.specs.LoadEnds.{most_threads};
-ghost use Rattle.lw_rounds.specs.Measures.{HasOnlyLooked, IsUnread};
-ghost use Rattle.lw_rounds.specs.Rounds.{AreNoted, AreRounds, Ascend, HasOnlyRead, IsDue, IsNotBefore, Makes, last_rows, masks_of};
+ghost use Rattle.lw_rounds.specs.Measures.{HasOnlyLooked, told_of, unmeasured};
+ghost use Rattle.lw_rounds.specs.Rounds.{AreNoted, AreRounds, Ascend, HasOnlyRead, IsDue, IsNotBefore, Makes, Sends, last_rows, masks_of};
 
 use crate::meter::Meter;
 use lw_base::{Items, Limits, NoMemory, Round, Row, Tick};
-use lw_load::LoadReader;
+use lw_load::{Figures, LoadReader};
 use lw_place::DeskSeat;
 use lw_sched::{due, plan};
 use std::alloc::Global;
@@ -38,7 +38,7 @@ impl Model for Balancer {
       reactors = b.reactors;
       masks = b.masks.items;
       period = b.period;
-      cells = b.meter;
+      meter = b.meter;
       first = b.first;
       rounds = b.rounds.items;
     } };
@@ -47,7 +47,7 @@ impl Model for Balancer {
       reactors = b.reactors;
       masks = b.masks.items;
       period = b.period;
-      cells = b.meter;
+      meter = b.meter;
       first = b.first;
       rounds = b.rounds.items;
     }) };
@@ -55,8 +55,8 @@ impl Model for Balancer {
 
 impl Balancer {
     /// No rounds yet, of a run with 1 to 16 reactors, with one mask a thread, in order, and a period of at least one tick. The
-    /// reader has read nothing yet, and reads the figures of as many threads as there are masks: 127 at most. It fails for want
-    /// of memory alone, and drops the reader then.
+    /// reader reads the figures of as many threads as there are masks: 127 at most. It fails for want of memory alone, and drops
+    /// the reader then.
     pub fn new(
         alloc: Global,
         reader: LoadReader,
@@ -68,12 +68,11 @@ impl Balancer {
         requires masks { length masks.items ≡ length reader }
         requires few { length masks.items ≤ most_threads }
         requires period { 1 ≤ period }
-        requires unread { All IsUnread reader }
         ensures { IfOk result (λ b. b ≡ record {
           reactors = reactors;
           masks = masks.items;
           period = period;
-          cells = reader;
+          meter = unmeasured reader;
           first = None;
           rounds = [];
         }) }
@@ -109,8 +108,18 @@ impl Balancer {
         due(last, self.period, now) && self.rounds.len() < MOST_ROUNDS
     }
 
+    /// Tells a thread's busy and idle sums, as whoever polls the thread knows them: the next round goes by them, and no longer by
+    /// what was published of it.
+    pub fn tell(&mut self, thread: u32, sums: Figures)
+        requires { thread < length self.old.masks }
+        ensures { self.new ≡ record self.old { meter = told_of thread sums self.old.meter } }
+    {
+        self.meter.tell(thread, sums);
+    }
+
     /// Makes a round that is due at this reading. Each thread's figures are read once, and the desk looks once where each
-    /// stands; it is a desk of the places of the run's threads and reactors.
+    /// stands; it is a desk of the places of the run's threads and reactors. Of a thread whose sums were told since the round
+    /// before, those count.
     ///
     /// It fails for want of memory alone. Then there is no round more, though the desk may have looked, and figures may have
     /// been read.
@@ -149,10 +158,11 @@ impl Balancer {
         Ok(())
     }
 
-    /// The rounds so far.
+    /// The rounds so far. Each order of a round sends a thread that has a row in it to another reactor of the run.
     pub fn rounds(&self) -> &[Round]
         ensures rounds { result.now ≡ self.now.rounds }
         ensures lawful { AreRounds self.now }
+        ensures sends { All (λ x. All (Sends self.now.reactors x.rows) x.orders) self.now.rounds }
     {
         self.rounds.as_slice()
     }

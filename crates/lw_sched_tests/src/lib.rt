@@ -1,7 +1,9 @@
-//! Tests of the scheduler's plan through public calls, one module a subject. A crate with tests is proved twice, so the
-//! crate below keeps none.
+//! Tests of the scheduler's plan and of its rounds through public calls, one module a subject. A crate with tests is proved
+//! twice, so the crates below keep none.
 #![tactic(auto)]
 
+#[cfg(test)]
+mod balancing;
 #[cfg(test)]
 mod loads;
 #[cfg(test)]

@@ -1,4 +1,4 @@
-use Rattle.std.proofs.Common.{◌≡◌, ◌<◌, ◌≤◌, ◌+◌, ◌-◌, ◌++◌, ◌∷◌, [], ℕ, List, Some, ap, sym, subst, ◌∙◌, length, slice_get, All, arith}
+use Rattle.std.proofs.Common.{◌≡◌, ◌<◌, ◌+◌, ◌-◌, ◌++◌, ◌∷◌, [], ℕ, List, Some, ap, sym, subst, ◌∙◌, length, slice_get, All, arith}
 use Rattle.std.specs.Option.{option_copied}
 use Rattle.std.specs.Vec.{with_items}
 use Rattle.std.proofs.lemmas.List.{with_items_is}
@@ -17,11 +17,11 @@ invariant_of-self g c =
       reactors = c.self.inside.reactors;
       masks = c.self.inside.masks.items;
       period = c.self.inside.period;
-      cells = c.self.inside.meter;
+      meter = c.self.inside.meter;
       first = c.self.inside.first;
       rounds = c.self.inside.rounds.items;
     } in
-    keeps_read c.self.inside.stands.items b c.measure.new.self c.measure.ensures.count c.self.invariant
+    keeps_read c.self.inside.stands.items b c.measure.new.self c.measure.ensures.read.count c.self.invariant
 
 pub invariant_of-self-2 : goal.invariant_of-self-2
 invariant_of-self-2 g c =
@@ -29,11 +29,11 @@ invariant_of-self-2 g c =
       reactors = c.self.inside.reactors;
       masks = c.self.inside.masks.items;
       period = c.self.inside.period;
-      cells = c.self.inside.meter;
+      meter = c.self.inside.meter;
       first = c.self.inside.first;
       rounds = c.self.inside.rounds.items;
     } in
-    keeps_read c.self.inside.stands.items b c.measure.new.self c.measure.ensures.count c.self.invariant
+    keeps_read c.self.inside.stands.items b c.measure.new.self c.measure.ensures.read.count c.self.invariant
 
 pub invariant_of-self-in_err-masks : goal.invariant_of-self-in_err-masks
 invariant_of-self-in_err-masks g c =
@@ -41,11 +41,11 @@ invariant_of-self-in_err-masks g c =
       reactors = c.self.inside.reactors;
       masks = c.self.inside.masks.items;
       period = c.self.inside.period;
-      cells = c.self.inside.meter;
+      meter = c.self.inside.meter;
       first = c.self.inside.first;
       rounds = c.self.inside.rounds.items;
     } in
-    keeps_read c.self.inside.stands.items b c.measure.new.self c.measure.ensures.count c.self.invariant
+    keeps_read c.self.inside.stands.items b c.measure.new.self c.measure.ensures.read.count c.self.invariant
 
 pub invariant_of-self-in_err-orders : goal.invariant_of-self-in_err-orders
 invariant_of-self-in_err-orders g c =
@@ -53,11 +53,11 @@ invariant_of-self-in_err-orders g c =
       reactors = c.self.inside.reactors;
       masks = c.self.inside.masks.items;
       period = c.self.inside.period;
-      cells = c.self.inside.meter;
+      meter = c.self.inside.meter;
       first = c.self.inside.first;
       rounds = c.self.inside.rounds.items;
     } in
-    keeps_read c.self.inside.stands.items b c.measure.new.self c.measure.ensures.count c.self.invariant
+    keeps_read c.self.inside.stands.items b c.measure.new.self c.measure.ensures.read.count c.self.invariant
 
 pub masks_of-requires : goal.masks_of-requires
 masks_of-requires g c =
@@ -95,12 +95,12 @@ invariant_of-self-in_err-push g c =
       reactors = c.self.inside.reactors;
       masks = c.self.inside.masks.items;
       period = c.self.inside.period;
-      cells = c.self.inside.meter;
+      meter = c.self.inside.meter;
       first = c.self.inside.first;
       rounds = c.self.inside.rounds.items;
     } in
-    subst (λ (rounds : List Round). KeepsRounds c.self.inside.stands.items (record b { cells = c.measure.new.self; rounds = rounds })) (sym c.in_err-push.ensures.items)
-    (keeps_read c.self.inside.stands.items b c.measure.new.self c.measure.ensures.count c.self.invariant)
+    subst (λ (rounds : List Round). KeepsRounds c.self.inside.stands.items (record b { meter = c.measure.new.self; rounds = rounds })) (sym c.in_err-push.ensures.items)
+    (keeps_read c.self.inside.stands.items b c.measure.new.self c.measure.ensures.read.count c.self.invariant)
 
 pub note_stands-requires-clause-threads : goal.note_stands-requires-clause-threads
 note_stands-requires-clause-threads g c =
@@ -140,7 +140,7 @@ invariant_of-self-in-Some g c =
       reactors = c.self.inside.reactors;
       masks = c.self.inside.masks.items;
       period = c.self.inside.period;
-      cells = c.self.inside.meter;
+      meter = c.self.inside.meter;
       first = c.self.inside.first;
       rounds = c.self.inside.rounds.items;
     } in
@@ -168,7 +168,7 @@ invariant_of-self-in-Some g c =
     let long : length now ≡ length old = omega arith in
     let whole : length now ≡ c.self.inside.stands.len = (let k = c.self.inside.stands.ok in omega arith) in
     let items : (with_items c.self.inside.stands now).items ≡ now = with_items_is c.self.inside.stands now whole in
-    subst (λ (stands : List ℕ). KeepsRounds stands (record b { cells = c.measure.new.self; rounds = all })) (sym items)
-    (subst (λ (rounds : List Round). KeepsRounds now (record b { cells = c.measure.new.self; rounds = rounds })) (sym pushed)
-    (keeps_made c.args.now old now b rows c.measure.new.self (subst (IsDue c.args.now) (sym c.self.view_is) c.requires.due) are c.measure.ensures.count long
+    subst (λ (stands : List ℕ). KeepsRounds stands (record b { meter = c.measure.new.self; rounds = all })) (sym items)
+    (subst (λ (rounds : List Round). KeepsRounds now (record b { meter = c.measure.new.self; rounds = rounds })) (sym pushed)
+    (keeps_made c.args.now old now b rows c.measure.new.self (subst (IsDue c.args.now) (sym c.self.view_is) c.requires.due) are c.measure.ensures.read.count long
     (subst (AreNoted now) noted c.note_stands.ensures.noted) c.self.invariant))

@@ -1,4 +1,4 @@
-use Rattle.std.proofs.Common.{◌≡◌, ℕ, ◌≤◌, ◌-◌, ap, sym, subst, ◌∙◌, length, slice_get, List, Some, unwrap_or, true, false, nat_lt, nat_le, refl, arith}
+use Rattle.std.proofs.Common.{◌≡◌, ℕ, ◌-◌, ap, sym, subst, ◌∙◌, length, slice_get, List, Some, true, false, nat_lt, nat_le, refl, arith}
 use Rattle.std.specs.Option.{option_copied}
 use Rattle.lw_base.specs.declared.moves.Round.{Round}
 use Rattle.lw_rounds.specs.Rounds.{BalancerEnd, IsNotBefore, most_rounds, last_time}
@@ -20,7 +20,7 @@ due-requires c =
       reactors = c.self.inside.reactors;
       masks = c.self.inside.masks.items;
       period = c.self.inside.period;
-      cells = c.self.inside.meter;
+      meter = c.self.inside.meter;
       first = c.self.inside.first;
       rounds = rounds;
     } in
@@ -42,7 +42,7 @@ returns-clause-due c =
       reactors = c.self.inside.reactors;
       masks = c.self.inside.masks.items;
       period = c.self.inside.period;
-      cells = c.self.inside.meter;
+      meter = c.self.inside.meter;
       first = c.self.inside.first;
       rounds = rounds;
     } in

@@ -1,67 +1,50 @@
-use Rattle.std.proofs.Common.{◌≡◌, ◌<◌, ◌≤◌, ◌-◌, List, ap, sym, subst, ◌∙◌, length, Some, None, Option, arith}
+use Rattle.std.proofs.Common.{◌≡◌, ◌<◌, ◌-◌, ap, sym, subst, ◌∙◌, length, Some, None, Option, slice_set, arith}
 use Rattle.lw_base.specs.declared.moves.Row.{Row}
 use Rattle.lw_load.specs.declared.figures.Figures.{Figures}
-use Rattle.lw_load.specs.LoadEnds.{Known, once_more}
 use Rattle.lw_place.specs.declared.place.Place.{Place}
-use Rattle.lw_rounds.specs.Measures.{LooksAt, figures_of, row_in}
-use Rattle.lw_rounds.proofs.Measuring.{known_at, known_is, read_before, read_after, no_row, looks_at}
+use Rattle.lw_rounds.specs.Measures.{LooksAt, MeterEnd, row_in}
+use Rattle.lw_rounds.proofs.Measuring.{same_at, no_row, looks_at}
 use Rattle.lw_rounds.proofs.meter.Meter.look.Goals as goal
-
-pub invariant_of-self : goal.invariant_of-self
-invariant_of-self g c =
-    let within : c.args.thread < length c.self.inside.reader = (let v = ap length c.self.view_is in let r = c.requires.thread in omega arith) in
-    read_after c.self.inside.read.items c.self.inside.reader c.read-now.new.self c.args.thread c.read-now.result within c.self.invariant c.read-now.ensures.found
 
 pub returns-in_default : goal.returns-in_default
 returns-in_default g c =
     let t = c.args.thread in
-    let cells = c.self.inside.reader in
-    let f = c.read-now.result in
-    let within : t < length cells = (let v = ap length c.self.view_is in let r = c.requires.thread in omega arith) in
-    let before = known_at cells t within in
-    subst (λ (ks : List Known). LooksAt t ks c.read-now.new.self c.args.desk.now c.look.new.self None) c.self.view_is
-    (looks_at cells c.read-now.new.self t f c.args.desk.now c.look.new.self c.look.result None within
-    c.read-now.ensures.found c.read-now.ensures.least c.look.ensures.seen c.look.ensures.below
-    (no_row t c.look.result before (once_more before f.busy f.idle) c.in_default.not-List))
-
-pub overflow_sub-result : goal.overflow_sub-result
-overflow_sub-result g c =
-    let t = c.args.thread in
-    let cells = c.self.inside.reader in
-    let within : t < length cells = (let v = ap length c.self.view_is in let r = c.requires.thread in omega arith) in
-    let k = known_at cells t within in
-    let read = ap (λ (x : Figures). x.busy) (c.index-before.ensures ∙ read_before c.self.inside.read.items cells t within c.index-before.result.now c.self.invariant) in
-    let known = ap (λ (x : Known). x.busy) (known_is cells t within k) in
-    let least = (c.read-now.ensures.least k).0 in
-    omega arith
-
-pub overflow_sub-result-2 : goal.overflow_sub-result-2
-overflow_sub-result-2 g c =
-    let t = c.args.thread in
-    let cells = c.self.inside.reader in
-    let within : t < length cells = (let v = ap length c.self.view_is in let r = c.requires.thread in omega arith) in
-    let k = known_at cells t within in
-    let read = ap (λ (x : Figures). x.idle) (c.index-before.ensures ∙ read_before c.self.inside.read.items cells t within c.index-before.result.now c.self.invariant) in
-    let known = ap (λ (x : Known). x.idle) (known_is cells t within k) in
-    let least = (c.read-now.ensures.least k).1 in
-    omega arith
-
-pub invariant_of-self-2 : goal.invariant_of-self-2
-invariant_of-self-2 g c =
-    let within : c.args.thread < length c.self.inside.reader = (let v = ap length c.self.view_is in let r = c.requires.thread in omega arith) in
-    read_after c.self.inside.read.items c.self.inside.reader c.read-now.new.self c.args.thread c.read-now.result within c.self.invariant c.read-now.ensures.found
+    let m : MeterEnd = record { cells = c.self.inside.reader; measured = c.self.inside.measured.items; told = c.self.inside.told.items } in
+    let new : MeterEnd = record { cells = c.read-published.new.self; measured = slice_set m.measured t c.unwrap_or-now.result; told = slice_set m.told t None } in
+    let within : t < length m.cells = (let v = ap (λ (e : MeterEnd). length e.cells) c.self.view_is in let r = c.requires.thread in omega arith) in
+    let measured : t < length m.measured = (let i = c.self.invariant.0 in omega arith) in
+    let told : t < length m.told = (let i = c.self.invariant.1 in omega arith) in
+    let last = c.index-last.result.now in
+    let now = c.unwrap_or-now.ensures in
+    subst (λ (o : MeterEnd). LooksAt t o new c.args.desk.now c.look.new.self None) c.self.view_is
+    (subst (λ (f : Figures). LooksAt t m (record new { measured = slice_set m.measured t f }) c.args.desk.now c.look.new.self None) (sym now)
+    (looks_at m c.read-published.new.self t c.read-published.result last c.index.result.now c.args.desk.now c.look.new.self c.look.result None within
+    c.read-published.ensures.found c.read-published.ensures.least
+    (λ d. same_at m.measured t d last last measured c.index-last.ensures)
+    (λ o. same_at m.told t o c.index.result.now c.index.result.now told c.index.ensures)
+    c.look.ensures.seen c.look.ensures.below
+    (no_row t c.look.result last _ c.in_default.not-List)))
 
 pub returns : goal.returns
 returns g c =
     let t = c.args.thread in
-    let cells = c.self.inside.reader in
-    let f = c.read-now.result in
-    let b = c.index-before.result.now in
-    let within : t < length cells = (let v = ap length c.self.view_is in let r = c.requires.thread in omega arith) in
-    let before = known_at cells t within in
-    let read : b ≡ figures_of before = c.index-before.ensures ∙ read_before c.self.inside.read.items cells t within b c.self.invariant in
-    let row : Figures → Option Row = λ x. Some (record { thread = t; reactor = c.in-List.reactor; busy = f.busy - x.busy; idle = f.idle - x.idle }) in
-    subst (λ (ks : List Known). LooksAt t ks c.read-now.new.self c.args.desk.now c.look.new.self (row b)) c.self.view_is
-    (looks_at cells c.read-now.new.self t f c.args.desk.now c.look.new.self c.look.result (row b) within
-    c.read-now.ensures.found c.read-now.ensures.least c.look.ensures.seen c.look.ensures.below
-    (ap row read ∙ ap (λ (p : Place). row_in t p before (once_more before f.busy f.idle)) (sym c.in-List.is)))
+    let m : MeterEnd = record { cells = c.self.inside.reader; measured = c.self.inside.measured.items; told = c.self.inside.told.items } in
+    let new : MeterEnd = record { cells = c.read-published.new.self; measured = slice_set m.measured t c.unwrap_or-now.result; told = slice_set m.told t None } in
+    let within : t < length m.cells = (let v = ap (λ (e : MeterEnd). length e.cells) c.self.view_is in let r = c.requires.thread in omega arith) in
+    let measured : t < length m.measured = (let i = c.self.invariant.0 in omega arith) in
+    let told : t < length m.told = (let i = c.self.invariant.1 in omega arith) in
+    let last = c.index-last.result.now in
+    let f = c.unwrap_or-now.result in
+    let now = c.unwrap_or-now.ensures in
+    let row : Option Row = Some (record { thread = t; reactor = c.in-List.reactor; busy = f.busy - last.busy; idle = f.idle - last.idle }) in
+    let answered : Option Row = Some (record { thread = t; reactor = c.in-List.reactor; busy = c.saturating_sub.result; idle = c.saturating_sub-2.result }) in
+    let is : answered ≡ row =
+    (λ i. Some (record { thread = t; reactor = c.in-List.reactor; busy = c.saturating_sub.ensures i; idle = c.saturating_sub-2.ensures i })) in
+    subst (λ (o : MeterEnd). LooksAt t o new c.args.desk.now c.look.new.self answered) c.self.view_is
+    (subst (λ (g : Figures). LooksAt t m (record new { measured = slice_set m.measured t g }) c.args.desk.now c.look.new.self answered) (sym now)
+    (looks_at m c.read-published.new.self t c.read-published.result last c.index.result.now c.args.desk.now c.look.new.self c.look.result answered within
+    c.read-published.ensures.found c.read-published.ensures.least
+    (λ d. same_at m.measured t d last last measured c.index-last.ensures)
+    (λ o. same_at m.told t o c.index.result.now c.index.result.now told c.index.ensures)
+    c.look.ensures.seen c.look.ensures.below
+    (is ∙ ap (λ (p : Place). row_in t p last f) (sym c.in-List.is) ∙ ap (row_in t c.look.result last) now)))
