@@ -1,0 +1,17 @@
+use Rattle.lw_event_tests.proofs.Ours.{ours_after, still_then}
+use Rattle.lw_event_tests.proofs.desks.takes.Goals as goal
+
+pub returns-in_err-hand_out : goal.returns-in_err-hand_out
+returns-in_err-hand_out g c = ours_after c.args.desks.now.items c.args.by c.index_mut-desk.result.now c.hand_out.new.desk c.requires.ours c.requires.by c.index_mut-desk.ensures.value c.hand_out.ensures.still
+
+pub returns-in_err-hand_out-2 : goal.returns-in_err-hand_out-2
+returns-in_err-hand_out-2 g c =
+    let taken = still_then c.index_mut-desk.result.now c.hand_out.new.desk c.take-count.new.self c.hand_out.ensures.still c.take-count.ensures.still in
+    let still = still_then c.index_mut-desk.result.now c.take-count.new.self c.hand_out-2.new.desk taken c.hand_out-2.ensures.still in
+    ours_after c.args.desks.now.items c.args.by c.index_mut-desk.result.now c.hand_out-2.new.desk c.requires.ours c.requires.by c.index_mut-desk.ensures.value still
+
+pub returns : goal.returns
+returns g c =
+    let taken = still_then c.index_mut-desk.result.now c.hand_out.new.desk c.take-count.new.self c.hand_out.ensures.still c.take-count.ensures.still in
+    let still = still_then c.index_mut-desk.result.now c.take-count.new.self c.hand_out-2.new.desk taken c.hand_out-2.ensures.still in
+    ours_after c.args.desks.now.items c.args.by c.index_mut-desk.result.now c.hand_out-2.new.desk c.requires.ours c.requires.by c.index_mut-desk.ensures.value still
