@@ -1,0 +1,5 @@
+use Rattle.lw_history.proofs.Made.{sends_are_replaced}
+use Rattle.lw_history.proofs.laws.sends_are_replaced.Goals as goal
+
+pub returns : goal.returns
+returns c = sends_are_replaced
