@@ -1,0 +1,4 @@
+pub mod Stations
+pub mod Stopping
+pub mod Posting
+pub mod Handling
