@@ -54,11 +54,13 @@ pub record IsCast (r : Run) (x : Cast) : Type 0 where
   pub threads : x.threads ≡ thread_count r.script
   pub origin : x.origin < thread_count r.script
 
--- a set that the app can take in: of the run's registry, with no channel and no visit, and with each device fired that it began
+-- a set that the app can take in: of the run's registry, with no channel and no visit, with each device fired that it began, and its
+-- seats stand for one thread alone
 pub record MayGoIn (r : Run) (x : Channels) : Type 0 where
   pub registry : latches x.row ≡ r.registry
   pub empty : IsEmpty x
   pub free : All (λ e. (e.view.visit ≡ 0) × (e.view.begun ≤ e.view.fired)) x.row.seats
+  pub alone : All (λ e. e.view.seats ≡ 1) x.row.seats
 
 -- a token on its way goes to its receiver; one that is complete comes to its origin
 abbrev pub Fits : ℕ → Run → Content → Type 0
