@@ -14,9 +14,10 @@ use Rattle.lw_mail.specs.Saying.{letter_of}
 use Rattle.lw_mail.specs.Fitting.{fits_mail}
 use Rattle.lw_mail.specs.declared.mail.Mail.{Mail}
 use Rattle.lw_mail.specs.declared.mail.Content.{Content}
+use Rattle.lw_passing.specs.Passing.{unsent_mail}
 use Rattle.lw_owner.specs.declared.owner.Owner.{Owner}
 use Rattle.lw_owner.specs.Serving.{IsReply, IsPlain, ReadsInto}
-use Rattle.lw_owner.specs.Handling.{unsent_mail, Answers, AnswersPlain, AnswersRead}
+use Rattle.lw_owner.specs.Handling.{Answers, AnswersPlain, AnswersRead}
 
 -- what holds of a call that succeeds
 pub on_ok : {T E A B : Type 0} (r : Result T E) → (A → B) → OnOk r A → OnOk r B

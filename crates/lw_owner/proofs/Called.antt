@@ -1,36 +1,19 @@
 -- What a run of a message keeps and does.
-use Rattle.std.proofs.Common.{◌≡◌, ℕ, length, sym, subst, ◌∙◌}
+use Rattle.std.proofs.Common.{ℕ, sym, subst}
 use Rattle.lw_base.specs.Letters.{FitsRing}
-use Rattle.lw_model.specs.Threads.{thread_count}
 use Rattle.lw_thread.specs.Acts.{Known, Doing, AllFit, and_run, asks_of}
 use Rattle.lw_whole.specs.Letters.{Letter}
 use Rattle.lw_mail.specs.Runs.{Run}
 use Rattle.lw_mail.specs.Saying.{letter_of}
 use Rattle.lw_mail.specs.Fitting.{Fits, fits_mail}
 use Rattle.lw_mail.specs.declared.mail.Mail.{Mail}
-use Rattle.lw_mail.specs.declared.mail.Content.{Content}
-use Rattle.lw_mail.specs.declared.mail.Content.TheVariants as content
 use Rattle.lw_owner.specs.declared.owner.Owner.{Owner}
 use Rattle.lw_owner.specs.Handling.{Handles}
 use Rattle.lw_owner.specs.Keeping.{Keeps, Runs}
 use Rattle.lw_owner.proofs.Parts.{fits_here}
 use Rattle.lw_owner.proofs.Fitting.{handled_fits}
 use Rattle.lw_owner.proofs.Doing.{keeps_handled}
-use Rattle.lw_owner.proofs.Running.{IsForAll, runs_handled}
-
-for_all : (c : Content) (here n : ℕ) (r : Run) → n ≡ thread_count r.script → Fits here r c → IsForAll c n
-for_all (content.Visit token) here n r e f = f.0.threads ∙ sym e
-for_all (content.Cast token) here n r e f = f.0.threads ∙ sym e
-for_all (content.Request c k) here n r e f = tt
-for_all (content.Read c k b) here n r e f = tt
-for_all (content.Written k) here n r e f = tt
-for_all (content.Filled k b) here n r e f = tt
-for_all (content.Flushed k w) here n r e f = tt
-for_all (content.PutSelf d) here n r e f = tt
-for_all (content.Visited t) here n r e f = tt
-for_all (content.Casted t) here n r e f = tt
-for_all (content.Done set) here n r e f = tt
-for_all content.Stop here n r e f = tt
+use Rattle.lw_owner.proofs.Running.{runs_handled}
 
 module _ (m : Mail) (s t : Doing Mail Owner) (k : Known Letter Run) (ring : FitsRing fits_mail k.thread k.family m) (h : Keeps k (asks_of letter_of s.acts) s.body) (g : Handles m s t) where
   here : Fits s.body.thread h.run m.content
@@ -42,5 +25,5 @@ module _ (m : Mail) (s t : Doing Mail Owner) (k : Known Letter Run) (ring : Fits
   pub fits_called : AllFit fits_mail k.family s.acts.pending → AllFit fits_mail k.family t.acts.pending
   fits_called all = subst (λ f. AllFit fits_mail f t.acts.pending) (sym h.family) (handled_fits h.run m s t h.owner here g (subst (λ f. AllFit fits_mail f s.acts.pending) h.family all))
 
-  pub does_called : (now : ℕ) → s.acts.threads ≡ length k.sent → Runs (letter_of m) now s t
-  does_called now e = runs_handled m now s t (for_all m.content s.body.thread s.acts.threads h.run (e ∙ h.threads) here) g
+  pub does_called : (now : ℕ) → Runs (letter_of m) now s t
+  does_called now = runs_handled m now s t g

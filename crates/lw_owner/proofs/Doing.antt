@@ -1,6 +1,7 @@
 -- What an owner does with a message keeps what it keeps.
 use Rattle.std.proofs.Common.{◌≡◌, ℕ, ◌+◌, ◌-◌, ◌==◌, Bool, true, false, not, [], ◌∷◌, ◌++◌, length, Some, refl, sym, ap, ap₂, subst, ◌∙◌, arith}
 use Rattle.std.specs.Prelude.{option_and_then}
+use Rattle.std.specs.Arc.{arc_value}
 use Rattle.std.proofs.lemmas.Bool.{eqb-true, true≢false}
 use Rattle.std.proofs.lemmas.List.{length-append}
 use Rattle.lw_base.specs.declared.message.What.TheVariants as what
@@ -18,9 +19,10 @@ use Rattle.lw_mail.specs.Fitting.{Fits}
 use Rattle.lw_mail.specs.declared.mail.Mail.{Mail}
 use Rattle.lw_mail.specs.declared.mail.Content.{Content}
 use Rattle.lw_mail.specs.declared.mail.Content.TheVariants as content
+use Rattle.lw_passing.specs.Passing.{IsNextVisit, IsNextCast}
 use Rattle.lw_owner.specs.declared.owner.Owner.{Owner}
 use Rattle.lw_owner.specs.Serving.{IsOwnerOf}
-use Rattle.lw_owner.specs.Handling.{Answers, IsNextVisit, IsNextCast, Does, HandlesAs, Handles, KeepsIt, is_strange}
+use Rattle.lw_owner.specs.Handling.{Answers, Does, HandlesAs, Handles, KeepsIt, is_strange}
 use Rattle.lw_owner.specs.Keeping.{Keeps, HasLog}
 use Rattle.lw_owner.proofs.Keeping.{keeps_one_more}
 use Rattle.lw_owner.proofs.Logging.{went_on, went_on_quietly, visit_goes, cast_goes}
@@ -117,7 +119,7 @@ module _ (k : Known Letter Run) (s t : Doing Mail Owner) (h : Keeps k (asks_of l
   same_body e = e
 
   -- what is served
-  done_on : (sender number : ℕ) (c : Content) → is_strange (letter_of (record { sender = sender; number = number; content = c })) ≡ false → Fits s.body.thread h.run c → Does c s t
+  done_on : (sender number : ℕ) (c : Content) → is_strange (arc_value s.body.script) (letter_of (record { sender = sender; number = number; content = c })) ≡ false → Fits s.body.thread h.run c → Does c s t
       → Keeps (and_run k (letter_of (record { sender = sender; number = number; content = c }))) (asks_of letter_of t.acts) t.body
   done_on sender number (content.Request client j) strange f g = answered_on sender number _ client j (asker client sender strange) g.answers
   done_on sender number (content.Read client j b) strange f g = answered_on sender number _ client j (asker client sender strange) g.answers
@@ -125,14 +127,14 @@ module _ (k : Known Letter Run) (s t : Doing Mail Owner) (h : Keeps k (asks_of l
     where
       on : HasLog h.run.script k (asks_of letter_of s.acts) s.body → HasLog h.run.script (and_run k (letter_of (record { sender = sender; number = number; content = content.Visit token }))) (asks_of letter_of t.acts) t.body
       on l = went_on h.run.script k s.acts s.body l _ g.0.to g.0.content t.acts t.body g.0.asked
-          (visit_goes h.run.script k.thread l.runs token.value g.0.to _ g.0.content f.0.threads (subst (λ n. IsNextVisit n token.value g.0.to g.0.content) (sym h.number) g.0.next))
+          (visit_goes h.run.script k.thread l.runs token.value g.0.to _ g.0.content f.0.threads (subst (λ n. IsNextVisit n [] token.value g.0.to g.0.content) (sym h.number) g.0.next))
           (subst (λ (b : Owner). IsAfter b.image (ops_run h.run.script (steps_run l.runs))) (sym g.1) l.image)
           (ap (λ (b : Owner). b.ended) g.1 ∙ l.ended)
   done_on sender number (content.Cast token) strange f g = same_but_acts _ s.body.ended (same_body g.1) on
     where
       on : HasLog h.run.script k (asks_of letter_of s.acts) s.body → HasLog h.run.script (and_run k (letter_of (record { sender = sender; number = number; content = content.Cast token }))) (asks_of letter_of t.acts) t.body
       on l = went_on h.run.script k s.acts s.body l _ g.0.to g.0.content t.acts t.body g.0.asked
-          (cast_goes h.run.script k.thread l.runs token.value g.0.to _ g.0.content f.0.threads (subst (λ n. IsNextCast n token.value g.0.to g.0.content) (sym h.number) g.0.next))
+          (cast_goes h.run.script k.thread l.runs token.value g.0.to _ g.0.content f.0.threads (subst (λ n. IsNextCast n (n ∷ []) token.value g.0.to g.0.content) (sym h.number) g.0.next))
           (subst (λ (b : Owner). IsAfter b.image (ops_run h.run.script (steps_run l.runs))) (sym g.1) l.image)
           (ap (λ (b : Owner). b.ended) g.1 ∙ l.ended)
   done_on sender number content.Stop strange f g = same_but_acts _ true g.0 on
@@ -150,8 +152,8 @@ module _ (k : Known Letter Run) (s t : Doing Mail Owner) (h : Keeps k (asks_of l
   done_on sender number (content.Done set) strange f g = absurd g
 
   pub keeps_handled : (m : Mail) → Fits s.body.thread h.run m.content → Handles m s t → Keeps (and_run k (letter_of m)) (asks_of letter_of t.acts) t.body
-  keeps_handled m f g = at (is_strange (letter_of m)) refl g
+  keeps_handled m f g = at (is_strange (arc_value s.body.script) (letter_of m)) refl g
     where
-      at : (b : Bool) → is_strange (letter_of m) ≡ b → HandlesAs b m s t → Keeps (and_run k (letter_of m)) (asks_of letter_of t.acts) t.body
+      at : (b : Bool) → is_strange (arc_value s.body.script) (letter_of m) ≡ b → HandlesAs b m s t → Keeps (and_run k (letter_of m)) (asks_of letter_of t.acts) t.body
       at true e g = kept_on m g
       at false e g = done_on m.sender m.number m.content e f g

@@ -1,18 +1,16 @@
 -- The log after a letter was run.
-use Rattle.std.proofs.Common.{◌≡◌, ℕ, ◌+◌, ◌-◌, ◌<◌, not, IsTrue, List, [], ◌∷◌, ◌++◌, refl, sym, ap, ap₂, subst, ◌∙◌, arith, inl, inr}
-use Rattle.std.specs.List.{list_any, list_all, range_with_len}
+use Rattle.std.proofs.Common.{◌≡◌, ℕ, ◌+◌, List, [], ◌∷◌, ◌++◌, refl, sym, ap, subst, ◌∙◌}
+use Rattle.std.specs.List.{list_any}
 use Rattle.std.proofs.lemmas.List.{append-nil}
 use Rattle.lw_base.proofs.Lists.{reverse_cons}
-use Rattle.lw_base.specs.declared.message.What.{What}
 use Rattle.lw_base.specs.declared.message.What.TheVariants as what
 use Rattle.lw_model.specs.declared.script.Script.{Script}
 use Rattle.lw_model.specs.Threads.{thread_count}
-use Rattle.lw_model.specs.Sent.{must_run}
 use Rattle.lw_image.specs.Image.{IsAfter}
 use Rattle.lw_thread.specs.Acts.{Known, ActsEnd, Post, and_run, asks_of, letters}
 use Rattle.lw_whole.specs.Letters.{Letter, marked, reached}
 use Rattle.lw_whole.specs.Sends.{ops_run}
-use Rattle.lw_whole.specs.Tokens.{GoesOn, load_behind, may_pass}
+use Rattle.lw_whole.specs.Tokens.{GoesOn, load_behind}
 use Rattle.lw_whole.specs.Unsent.{named, AreSent}
 use Rattle.lw_whole.specs.Owners.{steps_run, Serves, all_served}
 use Rattle.lw_whole.proofs.Unsent.{and_asked, as_sent}
@@ -21,9 +19,9 @@ use Rattle.lw_mail.specs.Runs.{Run}
 use Rattle.lw_mail.specs.Saying.{letter_of, what_of, load_of}
 use Rattle.lw_mail.specs.declared.mail.Mail.{Mail}
 use Rattle.lw_mail.specs.declared.mail.Content.{Content}
-use Rattle.lw_mail.specs.declared.mail.Content.TheVariants as content
+use Rattle.lw_passing.specs.Passing.{Asks as AsksTo, IsNextVisit, IsNextCast}
+use Rattle.lw_passing.proofs.Going.{visit_goes_on, cast_goes_on}
 use Rattle.lw_owner.specs.declared.owner.Owner.{Owner}
-use Rattle.lw_owner.specs.Handling.{Asks as AsksTo, IsNextVisit, IsNextCast}
 use Rattle.lw_owner.specs.Keeping.{HasLog, pairs, is_stop}
 use Rattle.lw_owner.proofs.Unused.{no_mark}
 
@@ -78,61 +76,14 @@ module _ (s : Script) (k : Known Letter Run) (a : ActsEnd Mail) (b : Owner) (l :
     ended = ended;
   }
 
--- where nothing is between, nothing is passed
-none_passed : (s : Script) (w : What) (from to : ℕ) → to ≡ from → may_pass s w from to
-none_passed s w from to e = subst (λ n. may_pass s w from n) (sym e) (subst (λ n. IsTrue (list_all (λ v. not (must_run s w v)) (range_with_len from n))) (sym zero_left) refl)
-  where
-    zero_left : from - from ≡ 0
-    zero_left = omega arith
-
--- the next visit
-pub visit_goes : (s : Script) (t : ℕ) (before : List Letter) (token : Visit) (to n : ℕ) (c : Content) → token.threads ≡ thread_count s → IsNextVisit t token to c
+-- the next visit: this thread holds no channel, so it adds no mark
+pub visit_goes : (s : Script) (t : ℕ) (before : List Letter) (token : Visit) (to n : ℕ) (c : Content) → token.threads ≡ thread_count s → IsNextVisit t [] token to c
     → GoesOn s (what.Visit token.origin token.op token.device) (t + 1) (load_behind s t (steps_run before) (what.Visit token.origin token.op token.device) (marked token.marks)) ((to, named (blank_of c) t n) ∷ [])
-visit_goes s t before token to n (content.Visit v) threads next = inl (record {
-  above = omega (arith, next.0);
-  thread = subst (λ m. to < m) threads next.1;
-  token = ap (λ (x : Visit). what.Visit x.origin x.op x.device) next.2;
-  carried = ap (λ (x : Visit). marked x.marks) next.2 ∙ ap (λ ms. marked (token.marks ++ ms)) (sym (no_mark s t token.device before));
-  passed = none_passed s (what.Visit token.origin token.op token.device) (t + 1) to next.0;
-})
-visit_goes s t before token to n (content.Visited v) threads next = inr (record {
-  completes = ap₂ (λ o k. (o, what.Visited k) ∷ []) next.0 (ap (λ (x : Visit). x.op) next.2);
-  carried = ap (λ (x : Visit). marked x.marks) next.2 ∙ ap (λ ms. marked (token.marks ++ ms)) (sym (no_mark s t token.device before));
-  passed = none_passed s (what.Visit token.origin token.op token.device) (t + 1) (thread_count s) (sym threads ∙ next.1);
-})
-visit_goes s t before token to n (content.Request c k) threads next = absurd next
-visit_goes s t before token to n (content.Read c k b) threads next = absurd next
-visit_goes s t before token to n (content.Written k) threads next = absurd next
-visit_goes s t before token to n (content.Filled k b) threads next = absurd next
-visit_goes s t before token to n (content.Flushed k w) threads next = absurd next
-visit_goes s t before token to n (content.PutSelf d) threads next = absurd next
-visit_goes s t before token to n (content.Cast b) threads next = absurd next
-visit_goes s t before token to n (content.Casted b) threads next = absurd next
-visit_goes s t before token to n (content.Done b) threads next = absurd next
-visit_goes s t before token to n content.Stop threads next = absurd next
+visit_goes s t before token to n c threads next =
+    subst (λ ms. GoesOn s (what.Visit token.origin token.op token.device) (t + 1) (marked (token.marks ++ ms)) ((to, named (blank_of c) t n) ∷ [])) (sym (no_mark s t token.device before))
+    (visit_goes_on s t [] token to t n c threads next)
 
 -- the next cast
-pub cast_goes : (s : Script) (t : ℕ) (before : List Letter) (token : Cast) (to n : ℕ) (c : Content) → token.threads ≡ thread_count s → IsNextCast t token to c
+pub cast_goes : (s : Script) (t : ℕ) (before : List Letter) (token : Cast) (to n : ℕ) (c : Content) → token.threads ≡ thread_count s → IsNextCast t (t ∷ []) token to c
     → GoesOn s (what.Cast token.origin token.op) (t + 1) (load_behind s t (steps_run before) (what.Cast token.origin token.op) (reached token.ran)) ((to, named (blank_of c) t n) ∷ [])
-cast_goes s t before token to n (content.Cast v) threads next = inl (record {
-  above = omega (arith, next.0);
-  thread = subst (λ m. to < m) threads next.1;
-  token = ap (λ (x : Cast). what.Cast x.origin x.op) next.2;
-  carried = ap (λ (x : Cast). reached x.ran) next.2;
-  passed = none_passed s (what.Cast token.origin token.op) (t + 1) to next.0;
-})
-cast_goes s t before token to n (content.Casted v) threads next = inr (record {
-  completes = ap₂ (λ o k. (o, what.Casted k) ∷ []) next.0 (ap (λ (x : Cast). x.op) next.2);
-  carried = ap (λ (x : Cast). reached x.ran) next.2;
-  passed = none_passed s (what.Cast token.origin token.op) (t + 1) (thread_count s) (sym threads ∙ next.1);
-})
-cast_goes s t before token to n (content.Request c k) threads next = absurd next
-cast_goes s t before token to n (content.Read c k b) threads next = absurd next
-cast_goes s t before token to n (content.Written k) threads next = absurd next
-cast_goes s t before token to n (content.Filled k b) threads next = absurd next
-cast_goes s t before token to n (content.Flushed k w) threads next = absurd next
-cast_goes s t before token to n (content.PutSelf d) threads next = absurd next
-cast_goes s t before token to n (content.Visit b) threads next = absurd next
-cast_goes s t before token to n (content.Visited b) threads next = absurd next
-cast_goes s t before token to n (content.Done b) threads next = absurd next
-cast_goes s t before token to n content.Stop threads next = absurd next
+cast_goes s t before token to n c threads next = cast_goes_on s t (t ∷ []) token to t n c threads next

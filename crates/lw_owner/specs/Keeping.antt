@@ -1,8 +1,7 @@
 -- What an owner keeps between its calls, and what its calls do.
-use Rattle.std.specs.Prelude.{ℕ, ◌+◌, ◌≡◌, ◌≤◌, ◌==◌, Bool, true, false, ◌&&◌, nat_lt, List, [], ◌∷◌, ◌++◌, map, reverse, length, Option, Some}
+use Rattle.std.specs.Prelude.{ℕ, ◌≡◌, ◌≤◌, ◌==◌, Bool, true, false, ◌&&◌, List, [], ◌∷◌, ◌++◌, map, reverse, length, Option, Some}
 use Rattle.std.specs.List.{list_any}
 use Rattle.std.specs.Arc.{arc_value}
-use Rattle.lw_base.specs.declared.message.What.{What}
 use Rattle.lw_base.specs.declared.message.What.TheVariants as what
 use Rattle.lw_model.specs.declared.script.Script.{Script}
 use Rattle.lw_model.specs.declared.script.Op.{Op}
@@ -11,14 +10,15 @@ use Rattle.lw_model.specs.Threads.{op_at, thread_count}
 use Rattle.lw_image.specs.Image.{IsAfter}
 use Rattle.lw_thread.specs.declared.body.Work.{Work}
 use Rattle.lw_thread.specs.declared.body.Work.TheVariants.{Idle}
-use Rattle.lw_thread.specs.Acts.{Known, Asks, Post, Doing, ActsEnd}
-use Rattle.lw_whole.specs.Letters.{Letter, Load, answered, reached, threads_in}
+use Rattle.lw_thread.specs.Acts.{Known, Asks, Post, Doing}
+use Rattle.lw_whole.specs.Letters.{Letter, answered, reached, threads_in}
 use Rattle.lw_whole.specs.Sends.{ops_run}
 use Rattle.lw_whole.specs.Unsent.{AreSent}
 use Rattle.lw_whole.specs.Owners.{steps_run, Served, all_served}
 use Rattle.lw_mail.specs.Runs.{Run}
 use Rattle.lw_mail.specs.Saying.{letter_of}
 use Rattle.lw_mail.specs.declared.mail.Mail.{Mail}
+use Rattle.lw_passing.specs.Passing.{AsksFor, VisitGoesPast, CastGoesPast}
 use Rattle.lw_owner.specs.declared.owner.Owner.{Owner}
 use Rattle.lw_owner.specs.Serving.{IsOwnerOf, AnswersAs}
 use Rattle.lw_owner.specs.Handling.{is_strange}
@@ -58,12 +58,6 @@ pub record Keeps (k : Known Letter Run) (a : Asks Letter) (b : Owner) : Type 0 w
 abbrev pub may_end : Owner → Bool
 may_end b = b.ended && length b.kept == 0
 
--- a message with this letter, which isn't sent yet, was asked to be sent behind the others
-pub record AsksFor (to : ℕ) (w : What) (load : Load) (old new : ActsEnd Mail) : Type 0 where
-  pub waiting : Mail
-  pub letter : letter_of waiting ≡ record { tag = record { sender = 0; number = 0; what = w }; load = load }
-  pub added : new ≡ record old { pending = old.pending ++ record { to = to; what = waiting } ∷ [] }
-
 -- a request is answered at once, by the image as it then is
 pub record RunsRequest (x : Letter) (k : ℕ) (s t : Doing Mail Owner) : Type 0 where
   pub of : Op
@@ -73,14 +67,6 @@ pub record RunsRequest (x : Letter) (k : ℕ) (s t : Doing Mail Owner) : Type 0 
   pub body : t.body ≡ record s.body { image = t.body.image }
   pub asked : AsksFor x.tag.sender (what.Reply k) (answered answer) s.acts t.acts
 
--- a token goes on to the next thread, where there is one, and behind the last home
-abbrev pub SendsOnAs : Bool → ℕ → What → What → ℕ → Load → Doing Mail Owner → Doing Mail Owner → Type 0
-SendsOnAs true origin way home here load s t = AsksFor (here + 1) way load s.acts t.acts × (t.body ≡ s.body)
-SendsOnAs false origin way home here load s t = AsksFor origin home load s.acts t.acts × (t.body ≡ s.body)
-
-abbrev pub SendsOn : ℕ → What → What → ℕ → Load → Doing Mail Owner → Doing Mail Owner → Type 0
-SendsOn origin way home here load s t = SendsOnAs (nat_lt (here + 1) s.acts.threads) origin way home here load s t
-
 -- a message is kept
 pub record Kept (x : Letter) (s t : Doing Mail Owner) : Type 0 where
   pub message : Mail
@@ -88,11 +74,13 @@ pub record Kept (x : Letter) (s t : Doing Mail Owner) : Type 0 where
   pub body : t.body ≡ record s.body { kept = s.body.kept ++ message ∷ [] }
   pub acts : t.acts ≡ s.acts
 
+-- What is served: a request is answered, and a token goes on to the next thread, or behind the last one home. To a visit nothing is
+-- added, to a cast this thread. At a Stop the owner ends.
 abbrev pub Serves : Letter → Doing Mail Owner → Doing Mail Owner → Type 0
 Serves x s t = elim x.tag.what [
   | what.Request k ↦ RunsRequest x k s t
-  | what.Visit o k d ↦ SendsOn o (what.Visit o k d) (what.Visited k) s.body.thread x.load s t
-  | what.Cast o k ↦ SendsOn o (what.Cast o k) (what.Casted k) s.body.thread (reached (threads_in x.load ++ s.body.thread ∷ [])) s t
+  | what.Visit o k d ↦ VisitGoesPast o k d s.body.thread x.load s.acts t.acts × (t.body ≡ s.body)
+  | what.Cast o k ↦ CastGoesPast o k s.body.thread (reached (threads_in x.load ++ s.body.thread ∷ [])) s.acts t.acts × (t.body ≡ s.body)
   | what.Stop ↦ (t.body ≡ record s.body { ended = true }) × (t.acts ≡ record s.acts { asked_end = true })
   | _ ↦ ⊥
 ]
@@ -103,7 +91,7 @@ RunsAs true x s t = Kept x s t
 RunsAs false x s t = Serves x s t
 
 abbrev pub Runs : Letter → ℕ → Doing Mail Owner → Doing Mail Owner → Type 0
-Runs x now s t = RunsAs (is_strange x) x s t
+Runs x now s t = RunsAs (is_strange (arc_value s.body.script) x) x s t
 
 -- an owner has no poller: a call of one does nothing
 abbrev pub Ticks : ℕ → ℕ → Work → Doing Mail Owner → Doing Mail Owner → Type 0

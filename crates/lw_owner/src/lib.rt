@@ -6,7 +6,6 @@
 mod body;
 mod laws;
 mod owner;
-mod passing;
 mod serving;
 
 pub use laws::owners_leave_logs;

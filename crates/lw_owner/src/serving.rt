@@ -1,6 +1,6 @@
 //! How a request is run.
 ghost use Rattle.std.specs.Prelude.{◌≡◌, ◌+◌, ◌^◌, ◌<◌, ◌≤◌, None, Some, MatchOption};
-ghost use Rattle.lw_model.specs.Threads.{op_at};
+ghost use Rattle.lw_model.specs.Threads.{op_at, is_client};
 ghost use Rattle.lw_image.specs.Image.{SameSize};
 ghost use Rattle.lw_owner.specs.Serving.{CanRun, CanRead, IsReply, IsPlain, ReadsInto};
 
@@ -8,6 +8,13 @@ use lw_image::Image;
 use lw_mail::Content;
 use lw_model::{Op, Script};
 use lw_pool::Buffer;
+
+// Whether a thread is a client.
+pub(crate) fn is_client(script: &Script, thread: u32) -> bool
+    ensures { result ≡ is_client script.now thread }
+{
+    0 < thread && thread as usize <= script.clients.len()
+}
 
 // The op of a client, where there is one.
 pub(crate) fn op_of(script: &Script, client: u32, op: u32) -> Option<&Op>

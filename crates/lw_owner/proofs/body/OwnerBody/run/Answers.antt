@@ -15,4 +15,4 @@ returns-clause-fits g c = on_ok c.handle.result (λ h k of is keeps all. fits_ca
 pub returns-clause-does : goal.returns-clause-does
 returns-clause-does g c =
     let q = c.requires in
-    on_ok c.handle.result (λ h. does_called c.args.message _ _ q.0 q.2.its_ring q.3 h c.args._now q.1.threads) c.handle.ensures
+    on_ok c.handle.result (λ h. does_called c.args.message _ _ q.0 q.2.its_ring q.3 h c.args._now) c.handle.ensures
