@@ -1,0 +1,15 @@
+pub mod Counting
+pub mod Seats
+pub mod Stopping
+pub mod Histories
+pub mod Rows
+pub mod Logs
+pub mod Ticking
+pub mod Taking
+pub mod Empty
+pub mod Passing
+pub mod Running
+pub mod Telling
+pub mod Returning
+pub mod Leaving
+pub mod Results
