@@ -1,0 +1,4 @@
+pub mod Tasks
+pub mod Kinds
+pub mod Answering
+pub mod Free
