@@ -1,0 +1,14 @@
+pub mod Sending
+pub mod Rounded
+pub mod Stills
+pub mod Balancing
+pub mod Polled
+pub mod Turning
+pub mod Results
+pub mod Events
+pub mod Trying
+pub mod Stopped
+pub mod Nexts
+pub mod Ordering
+pub mod Made
+pub mod Turned
